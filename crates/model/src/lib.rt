@@ -1,0 +1,2 @@
+pub mod error;
+pub mod items;
