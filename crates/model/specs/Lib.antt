@@ -1,6 +1,8 @@
 pub mod Records
 pub mod Refusals
 pub mod Frames
+pub mod Checks
+pub mod Explanations
 pub mod Logging
 pub mod Walks
 pub mod Paths

@@ -1,4 +1,6 @@
 // Why a call is refused, and where in a question.
+ghost use mathlib.Core.Path.{_≡_};
+ghost use Rattle.std.specs.declared.option.Option.the-variants.{None};
 use crate::items::Argument;
 use crate::items::Pair;
 
@@ -29,4 +31,13 @@ pub struct Fault {
     pub pair: Option<Pair>,
     pub level: u32,
     pub argument: Option<Argument>,
+}
+
+impl Fault {
+    // A refusal outside of questions.
+    pub fn new(cause: Cause) -> Fault
+        ensures { λ r. ⌜ r ≡ record { cause = cause; pair = None; level = 0; argument = None } ⌝ }
+    {
+        Fault { cause, pair: None, level: 0, argument: None }
+    }
 }

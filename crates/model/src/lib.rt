@@ -1,2 +1,3 @@
+pub mod equality;
 pub mod error;
 pub mod items;

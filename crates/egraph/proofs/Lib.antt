@@ -1,0 +1,5 @@
+pub mod Lists
+pub mod Newest
+pub mod Refused
+pub mod GivenChecks
+pub mod Filing

@@ -1,0 +1,3 @@
+pub mod Table
+pub mod Records
+pub mod View

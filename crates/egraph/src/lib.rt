@@ -1,0 +1,7 @@
+mod checks;
+pub mod egraph;
+pub mod enode;
+pub mod equality;
+pub mod logging;
+pub mod records;
+pub mod table;

@@ -1,0 +1,5 @@
+use Rattle.model.proofs.ArgPairs.{pairs-length}
+use Rattle.model.proofs.items.ArgPairs.len.Needs as need
+
+pub returns : need.returns
+returns c = pairs-length (c .args .self .words .now)
