@@ -2,4 +2,4 @@ pub mod Lists
 pub mod Newest
 pub mod Refused
 pub mod GivenChecks
-pub mod Filing
+pub mod Filed

@@ -2,6 +2,7 @@ mod checks;
 pub mod egraph;
 pub mod enode;
 pub mod equality;
+mod filing;
 pub mod logging;
 pub mod records;
 pub mod table;

@@ -23,6 +23,10 @@ use Rattle.egraph.specs.declared.enode.ENode.{ENode}
 use Rattle.egraph.specs.declared.equality.Given.{Given}
 use Rattle.egraph.specs.declared.table.Table.{Table}
 use Rattle.egraph.specs.declared.records.Records.{Records}
+use Rattle.egraph.specs.declared.equality.Kind.{Kind}
+use Rattle.model.specs.declared.items.EqualityExpl.{EqualityExpl}
+use Rattle.model.specs.Explanations.{from-of, to-of}
+use Rattle.egraph.specs.Filing.{row-kind, row-of, enode-under}
 use Rattle.egraph.specs.Table.{listed, places, Fits}
 use Rattle.egraph.specs.Records.{enode-of, records-of, no-enode, under, Headed}
 use Rattle.egraph.specs.View.{case-of, given-list, size, Ends-filed, In-lists, Within-limits, Arguments-filed}
@@ -68,3 +72,9 @@ enode-refused m t owner room =
     let long : length (map enode-of es) ≡ length es = length-map es enode-of in
     let test : ltb (length (map enode-of es)) (min 65536 (places (t .enodes))) ≡ false = rw long (le-ltb _ _ (omega (arith, leb-false _ _ room))) in
     rw test
+
+-- the row of a given, by what it was made of
+pub row-made : (t : Records) (e : EqualityExpl) (frame from to : ℕ) (kind : Kind) (n : ℕ) (enode : ENode) →
+    from ≡ from-of e → to ≡ to-of e → kind ≡ row-kind n e → length (listed (t .arguments)) ≡ n → enode ≡ enode-under t e →
+    record { from = from; to = to; frame = frame; kind = kind; older = enode .newest } ≡ row-of t e frame
+row-made t e frame from to kind n enode f l k s h = rw (f, l, k, ← s, h)
