@@ -3,3 +3,4 @@ pub mod Newest
 pub mod Refused
 pub mod GivenChecks
 pub mod Filed
+pub mod GivenFiled

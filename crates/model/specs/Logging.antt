@@ -67,6 +67,10 @@ new-given under from to kind k =
     unless-refused (given-checks under from to kind k) k
     (in-frame k (λ frame. record { from = from; to = to; frame = frame; kind = kind }) (log-frame (k .frames)))
 
+-- opening and closing frames change nothing but the frames
+abbrev pub on-frames : Case → Result ℕ Refusal × Frames → Outcome
+on-frames k o = (o .0, record { room = k .room; frames = o .1; records = k .records })
+
 -- an enode's oldest given to an end, whichever frames count
 abbrev pub get-given : ℕ → ℕ → Records → Result (Option ℕ) Refusal
 get-given from to r =

@@ -12,7 +12,7 @@ use Rattle.egraph.proofs.egraph.EGraph.new_enode.Needs as need
 pub returns-then-not-has-room : need.returns-then-not-has-room
 returns-then-not-has-room g c =
     let s = c .args .self .now in
-    record { outcome = refused-as (c .new .ensures) ∙ enode-refused (g .R·FrameRule .means (s .rule)) (s .records) (c .args .owner) (sym (c .if-not-has-room .ensures tt)); kept = (refl, refl, refl, refl, refl, refl) }
+    record { outcome = refused-as (c .new .ensures) ∙ enode-refused (g .R·FrameRule .means (s .rule)) (s .records) (c .args .owner) (sym (c .if-not-has-room .ensures tt)); kept = ((refl, refl, refl, refl, refl, refl), refl) }
 
 pub ghost-self : need.ghost-self
 ghost-self g c =
