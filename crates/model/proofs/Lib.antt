@@ -1,0 +1,4 @@
+pub mod Members
+pub mod Links
+pub mod Steps
+pub mod Strikes
