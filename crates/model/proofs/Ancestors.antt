@@ -1,0 +1,1 @@
+-- Ancestors, by the links.
