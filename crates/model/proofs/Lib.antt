@@ -4,3 +4,4 @@ pub mod Walks
 pub mod Ancestors
 pub mod Steps
 pub mod Strikes
+pub mod Confluence

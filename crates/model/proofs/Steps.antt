@@ -14,6 +14,7 @@ use Rattle.model.specs.Walks.{Links}
 use Rattle.model.specs.Paths.{up, given-of}
 use Rattle.model.specs.PathLaws.{start, arrival, Joins, meets, Climbs}
 use Rattle.model.proofs.Links.{Linked}
+use Rattle.model.proofs.Walks.{Follows, follows-head, follows-on}
 
 abbrev pub step : ℕ → Bool → Step
 step g way = record { given = g; forward = way }
@@ -64,9 +65,16 @@ module _ (gs : List Given) where
       ∙ cc (arrivals-turned ss, arrival-turn s)
       ∙ sym (reverse-cons (start gs s) (map (start gs) ss))
 
+-- what follows the links is climbed step by step
+pub climb : (next : Links) (e top : ℕ) (rising tail : List ℕ) → Follows next e (rising ++ (top ∷ tail)) → Climbs next (map (up next) rising) e top
+climb next e top [] tail f = sym (follows-head next e top tail f)
+climb next e top (x ∷ xs) tail f =
+    let on = follows-on next e x top xs tail f in
+    (on .0, on .1, ap (up next) (on .2), climb next (on .0 .to) top xs tail (on .3))
+
 module _ (next : Links) (gs : List Given) (ok : (e : ℕ) (l : Link) → next e ≡ Some l → Linked gs e l) where
   -- a step up is over the given of the enode's link
-  pub up-over : (e : ℕ) (l : Link) → next e ≡ Some l → up next e ≡ step (l .given) true
+  up-over : (e : ℕ) (l : Link) → next e ≡ Some l → up next e ≡ step (l .given) true
   up-over e l h = ap (λ o. step (given-of o) true) h
 
   pub climbs-join : (ss : List Step) (x y : ℕ) → Climbs next ss x y → Joins gs ss x y
@@ -75,3 +83,19 @@ module _ (next : Links) (gs : List Given) (ok : (e : ℕ) (l : Link) → next e 
       let along = ok x l h in
       subst (λ t. Joins gs (t ∷ ss) x y) (sym (is ∙ up-over x l h))
       (along .on-file, along .begins, rw (along .leads-to) (climbs-join ss (l .to) y more))
+
+  -- the steps that climb a list set out from its enodes
+  pub climb-starts : (e top : ℕ) (rising tail : List ℕ) → Follows next e (rising ++ (top ∷ tail)) → map (start gs) (map (up next) rising) ≡ rising
+  climb-starts e top [] tail f = refl
+  climb-starts e top (x ∷ xs) tail f =
+      let on = follows-on next e x top xs tail f in
+      let here : start gs (up next x) ≡ x = ap (λ z. start gs (up next z)) (on .2) ∙ ap (start gs) (up-over e (on .0) (on .1)) ∙ ok e (on .0) (on .1) .begins ∙ sym (on .2) in
+      cc (here, climb-starts (on .0 .to) top xs tail (on .3))
+
+  -- and meet them, up to the top
+  pub climb-meets : (e top : ℕ) (rising tail : List ℕ) → Follows next e (rising ++ (top ∷ tail)) → meets gs e (map (up next) rising) ≡ rising ++ (top ∷ [])
+  climb-meets e top [] tail f = ap (λ z. z ∷ []) (sym (follows-head next e top tail f))
+  climb-meets e top (x ∷ xs) tail f =
+      let on = follows-on next e x top xs tail f in
+      let there : arrival gs (up next x) ≡ on .0 .to = ap (λ z. arrival gs (up next z)) (on .2) ∙ ap (arrival gs) (up-over e (on .0) (on .1)) ∙ ok e (on .0) (on .1) .leads-to in
+      cc (there, on .2, climb-meets (on .0 .to) top xs tail (on .3))

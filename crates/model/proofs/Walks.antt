@@ -31,12 +31,16 @@ module _ (next : Links) where
   follows-cons e l [] h f = refl
   follows-cons e l (x ∷ xs) h f = (l, h, refl, f)
 
+  -- an enode with one after it links to the next
+  pub follows-on : (e x y : ℕ) (xs ys : List ℕ) → Follows next e (x ∷ (xs ++ (y ∷ ys))) → (l : Link) × (next e ≡ Some l) × (x ≡ e) × Follows next (l .to) (xs ++ (y ∷ ys))
+  follows-on e x y [] ys f = f
+  follows-on e x y (z ∷ zs) ys f = f
+
   -- what is left of it from an enode on
   pub follows-from : (e x : ℕ) (front back : List ℕ) → Follows next e (front ++ (x ∷ back)) → Follows next x (x ∷ back)
   follows-from e x [] [] f = refl
   follows-from e x [] (y ∷ ys) (l, h, same, more) = (l, rw same h, refl, more)
-  follows-from e x (z ∷ []) back (l, h, same, more) = follows-from (l .to) x [] back more
-  follows-from e x (z ∷ w ∷ ws) back (l, h, same, more) = follows-from (l .to) x (w ∷ ws) back more
+  follows-from e x (z ∷ zs) back f = let on = follows-on e z x zs back f in follows-from (on .0 .to) x zs back (on .3)
 
 last-any : (x d d′ : ℕ) (xs : List ℕ) → met x xs ≡ true → last d xs ≡ last d′ xs
 last-any x d d′ [] h = grind arith
