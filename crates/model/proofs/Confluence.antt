@@ -29,7 +29,7 @@ pub record Confluent (f t : List ℕ) : Type 0 where
   pub second-is : t ≡ falling ++ (top ∷ tail)
   pub apart : Apart rising falling
 
-pub confluent-sym : (f t : List ℕ) → Confluent f t → Confluent t f
+abbrev pub confluent-sym : (f t : List ℕ) → Confluent f t → Confluent t f
 confluent-sym f t m = record {
   rising = m .falling;
   falling = m .rising;

@@ -5,3 +5,5 @@ pub mod Ancestors
 pub mod Steps
 pub mod Strikes
 pub mod Confluence
+pub mod Paths
+pub mod PathLaws

@@ -14,7 +14,7 @@ use Rattle.std.specs.declared.option.Option.{Option}
 use Rattle.std.specs.declared.option.Option.the-variants.{Some, None}
 use Rattle.model.specs.declared.items.Link.{Link}
 use Rattle.model.specs.Walks.{Links, Walk, Ending, no-link, again, at-root, met, Distinct, is-root, through, visit, walk, root-walk, last, No-circle}
-use Rattle.model.proofs.Members.{Below, met-head, distinct-short, full}
+use Rattle.model.proofs.Members.{Below, met-head, met-last, distinct-short, full}
 
 -- the list is empty, or begins with e, and each enode links to the one after it
 abbrev pub Follows : Links → ℕ → List ℕ → Type 0
@@ -115,6 +115,9 @@ module _ (next : Links) (root : Option ℕ) where
 
   pub walk-has-first : (size e : ℕ) → e < size → met e (root-walk next size root e .enodes) ≡ true
   walk-has-first size e lt = let b = walk-begins size e lt in rw (b .1) (met-head e (b .0))
+
+  pub walk-has-last : (size e : ℕ) → e < size → met (last e (root-walk next size root e .enodes)) (root-walk next size root e .enodes) ≡ true
+  walk-has-last size e lt = let b = walk-begins size e lt in rw (b .1) (met-last e (b .0))
 
 -- room for the enodes that are not seen yet, of that many enodes
 pub record Room (size room : ℕ) (seen : List ℕ) : Type 0 where

@@ -1,2 +1,3 @@
 pub mod error;
 pub mod items;
+pub mod laws;
