@@ -1,19 +1,17 @@
 -- Ancestors, and the lists that have them. Assumes nothing.
 use Prim.Native.Nat.{ℕ}
-use mathlib.Core.Path.{_≡_, refl, sym, _∙_, ap, subst}
-use mathlib.Core.Bool.{Bool, true, false, _||_}
-use mathlib.Core.List.{List, [], _∷_, _++_}
+use mathlib.Core.Path.{_≡_, sym, _∙_, subst}
+use mathlib.Core.Bool.{true}
+use mathlib.Core.List.{List, [], _∷_}
 use mathlib.Core.Logic.{inl, inr}
 use native.Mathlib.Omega.{arith}
-use lib.Dec.{eqb}
 use Rattle.std.proofs.shelf.Tests.{cases-eq}
 use Rattle.std.proofs.shelf.Ways.{tells}
-use Rattle.std.specs.declared.option.Option.the-variants.{Some, None}
-use Rattle.model.specs.declared.items.Link.{Link}
 use Rattle.model.specs.Walks.{Links, met, last}
 use Rattle.model.specs.PathLaws.{Ancestor, itself, further}
 use Rattle.model.proofs.Members.{met-last, split, last-append}
-use Rattle.model.proofs.Walks.{Follows, follows-head, follows-from, Closed}
+use Rattle.model.proofs.Walks.{Follows, follows-from}
+use Rattle.model.proofs.Rooms.{Closed}
 
 module _ (next : Links) where
   pub ancestor-trans : (x y z : ℕ) → Ancestor next x y → Ancestor next y z → Ancestor next x z

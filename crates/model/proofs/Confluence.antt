@@ -1,22 +1,19 @@
 -- Where two lists that follow the links come together, and the path that joins them there. Assumes nothing.
-use Prim.Native.Nat.{ℕ, zero, suc, _+_, _-_, _<_}
+use Prim.Native.Nat.{ℕ, _+_, _-_}
 use mathlib.Core.Path.{_≡_, refl, sym, _∙_, ap, subst}
-use mathlib.Core.Bool.{Bool, true, false, cond, _||_}
+use mathlib.Core.Bool.{true, false}
 use mathlib.Core.List.{List, [], _∷_, _++_, map, reverse, append-assoc}
 use mathlib.Core.Logic.{inl, inr}
 use native.Mathlib.Omega.{arith}
-use lib.Dec.{eqb}
 use lib.ListN.{length, take}
-use Rattle.std.proofs.shelf.Lists.{reverse-append, length-reverse, length-append, take-at, map-append}
+use Rattle.std.proofs.shelf.Lists.{reverse-append, length-reverse, length-append, take-at}
 use Rattle.std.proofs.shelf.Tests.{cases-bool}
 use Rattle.std.proofs.shelf.Ways.{tells}
-use Rattle.std.specs.declared.option.Option.the-variants.{Some, None}
-use Rattle.model.specs.declared.items.Link.{Link}
-use Rattle.model.specs.declared.items.Step.{Step}
-use Rattle.model.specs.Records.{Given, turned}
+use Rattle.std.specs.declared.option.Option.the-variants.{Some}
+use Rattle.model.specs.Records.{turned}
 use Rattle.model.specs.Walks.{Links, met, Distinct, last}
 use Rattle.model.specs.Paths.{Path, common, shared, without-last, up, join}
-use Rattle.model.proofs.Members.{Apart, apart-sym, met-head, met-last, met-append, met-reverse, split, last-append, distinct-append, distinct-parts, distinct-reverse}
+use Rattle.model.proofs.Members.{Apart, apart-sym, met-head, met-last, met-append, met-reverse, split, last-append, distinct-parts}
 use Rattle.model.proofs.Walks.{Follows, follows-head, follows-from}
 
 -- both lists end alike, from the top on, and before it they have nothing in common

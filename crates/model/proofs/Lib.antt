@@ -1,6 +1,8 @@
 pub mod Members
 pub mod Links
 pub mod Walks
+pub mod Rooms
+pub mod Endings
 pub mod Ancestors
 pub mod Steps
 pub mod Strikes

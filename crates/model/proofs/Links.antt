@@ -1,12 +1,11 @@
 -- The newest given that passes a test, and the link that it makes. Assumes nothing.
 use Prim.Native.Nat.{ℕ, zero, suc, _<_, _≤_}
 use mathlib.Core.Path.{_≡_, refl, sym, _∙_, ap}
-use mathlib.Core.Bool.{Bool, true, false, _&&_, cond}
+use mathlib.Core.Bool.{Bool, true, false, cond}
 use mathlib.Core.List.{List, [], _∷_, _++_}
 use mathlib.Core.Logic.{inl, inr}
 use native.Mathlib.Omega.{arith}
-use lib.Dec.{eqb}
-use lib.ListN.{length, getD}
+use lib.ListN.{length}
 use Rattle.std.proofs.shelf.Lists.{getD-append-left, getD-push}
 use Rattle.std.proofs.shelf.Tests.{cases-bool, cases-eq}
 use Rattle.std.proofs.shelf.Ways.{tells}
@@ -14,7 +13,7 @@ use Rattle.std.specs.declared.option.Option.{Option}
 use Rattle.std.specs.declared.option.Option.the-variants.{Some, None}
 use Rattle.model.specs.declared.items.Link.{Link}
 use Rattle.model.specs.Records.{Given, no-given, given-at, newest}
-use Rattle.model.specs.Walks.{Links, links, as-link, counting}
+use Rattle.model.specs.Walks.{links, as-link, counting}
 use Rattle.model.specs.PathLaws.{Ends-known}
 
 module _ (test : Given → Bool) (gs : List Given) where

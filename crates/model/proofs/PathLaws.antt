@@ -1,31 +1,30 @@
 -- The laws of walks and paths. Assumes nothing.
-use Prim.Native.Nat.{ℕ, _<_, _≤_}
+use Prim.Native.Nat.{ℕ, _<_}
 use mathlib.Core.Path.{_≡_, refl, sym, _∙_, ap, subst}
-use mathlib.Core.Bool.{Bool, true, false, _||_}
+use mathlib.Core.Bool.{Bool, true, false}
 use mathlib.Core.List.{List, [], _∷_, _++_, map}
 use mathlib.Core.Logic.{inl, inr}
 use native.Mathlib.Omega.{arith}
 use lib.Dec.{eqb}
-use lib.ListN.{length}
 use Rattle.std.proofs.shelf.Tests.{cases-bool, eqb-true, eq-eqb}
 use Rattle.std.proofs.shelf.Ways.{tells}
 use Rattle.std.specs.Options.{isSome}
-use Rattle.std.specs.declared.option.Option.{Option}
 use Rattle.std.specs.declared.option.Option.the-variants.{Some, None}
 use Rattle.model.specs.declared.items.Link.{Link}
 use Rattle.model.specs.declared.items.Step.{Step}
 use Rattle.model.specs.Records.{Given, turned}
-use Rattle.model.specs.Walks.{Links, links, met, Distinct, root-walk, last, is-root, check-eq, shares, No-circle}
+use Rattle.model.specs.Walks.{Links, links, met, Distinct, root-walk, last, check-eq, shares, No-circle}
 use Rattle.model.specs.Paths.{Path, up, join, some-if, path}
-use Rattle.model.specs.PathLaws.{Joins, meets, Ends-known, Strikes, Bare, Ancestor, Nearest, Over-nearest, Walk-laws, Walks-lawful}
+use Rattle.model.specs.PathLaws.{Joins, meets, Strikes, Bare, Ancestor, Nearest, Over-nearest, Walks-lawful}
 use Rattle.model.proofs.Members.{met-append, shares-from, shared-by}
 use Rattle.model.proofs.Links.{Linked, linked, link-within}
-use Rattle.model.proofs.Walks.{Within, Follows, Closed, Terminal, follows-from, walk-follows, walk-distinct, walk-short, walk-has-first, walk-has-last, walk-closed, walk-terminal, walk-told, root-last}
+use Rattle.model.proofs.Walks.{Within, Follows, follows-from, walk-follows, walk-distinct, walk-short, walk-has-first, walk-has-last, root-last}
+use Rattle.model.proofs.Rooms.{Closed, walk-closed}
+use Rattle.model.proofs.Endings.{Terminal, walk-terminal, walk-told}
 use Rattle.model.proofs.Ancestors.{ancestor-trans, closed-ancestor, follows-ancestor, last-ancestor}
-use Rattle.model.proofs.Steps.{turned-turned}
 use Rattle.model.proofs.Strikes.{Reduced, reduce, reduce-reduced, reduce-append, reduce-forth, reduced-same, bare-from-reduced, struck-out, joins-reduced}
-use Rattle.model.proofs.Confluence.{Confluent, over, join-over}
-use Rattle.model.proofs.Paths.{Meeting, join-turned, rises, falls, join-distinct, join-reduces, join-joins, join-meets, first-walk, second-walk, Found, path-found, path-made, walks-meet}
+use Rattle.model.proofs.Confluence.{join-over}
+use Rattle.model.proofs.Paths.{Meeting, join-turned, rises, falls, join-distinct, join-reduces, join-joins, join-meets, first-walk, second-walk, path-found, path-made, walks-meet}
 
 some-if-true : {A : Type 0} (b : Bool) (x : A) → isSome (some-if b x) ≡ b
 some-if-true true x = refl

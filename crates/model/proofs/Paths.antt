@@ -1,7 +1,7 @@
 -- The path that joins two lists that come together, and the path of a pair. Assumes nothing.
 use Prim.Native.Nat.{ℕ, _<_}
 use mathlib.Core.Path.{_≡_, refl, sym, _∙_, ap, subst}
-use mathlib.Core.Bool.{Bool, true, false, _||_}
+use mathlib.Core.Bool.{Bool, true, false}
 use mathlib.Core.List.{List, [], _∷_, _++_, map, reverse, append-assoc}
 use native.Mathlib.Omega.{arith}
 use lib.Dec.{eqb}
@@ -15,13 +15,13 @@ use Rattle.model.specs.declared.items.Step.{Step}
 use Rattle.model.specs.Records.{Given, turned}
 use Rattle.model.specs.Walks.{Links, met, Distinct, root-walk, last}
 use Rattle.model.specs.Paths.{Path, up, join, some-if, path}
-use Rattle.model.specs.PathLaws.{start, arrival, Joins, meets, Climbs}
+use Rattle.model.specs.PathLaws.{arrival, Joins, meets, Climbs}
 use Rattle.model.proofs.Members.{Apart, met-append, met-reverse, distinct-append, distinct-parts, distinct-reverse}
 use Rattle.model.proofs.Links.{Linked}
 use Rattle.model.proofs.Walks.{Follows, walk-follows, walk-distinct, walk-begins, walk-has-last}
 use Rattle.model.proofs.Steps.{turned-append, turned-turned, joins-append, joins-turned, meets-arrivals, arrivals-turned, climb, climbs-join, climb-starts, climb-meets}
 use Rattle.model.proofs.Strikes.{Reduced, reduce, reduce-reduced, reduce-append, reduce-back}
-use Rattle.model.proofs.Confluence.{Confluent, confluent-sym, confluent, over, join-over}
+use Rattle.model.proofs.Confluence.{Confluent, confluent-sym, confluent, join-over}
 
 -- two lists that follow the links from a and from b, have no enode twice and come together
 pub record Meeting (next : Links) (a b : ℕ) (f t : List ℕ) : Type 0 where

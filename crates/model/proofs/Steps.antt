@@ -1,15 +1,14 @@
 -- Steps read from the other end, the enodes that steps meet, and steps that climb. Assumes nothing.
-use Prim.Native.Nat.{ℕ, _<_}
+use Prim.Native.Nat.{ℕ}
 use mathlib.Core.Path.{_≡_, refl, sym, _∙_, ap, subst}
-use mathlib.Core.Bool.{Bool, true, false, not, cond}
+use mathlib.Core.Bool.{Bool, true, false, not}
 use mathlib.Core.List.{List, [], _∷_, _++_, map, reverse, reverse-cons, reverse-append}
 use native.Mathlib.Omega.{arith}
-use lib.ListN.{length}
 use Rattle.std.proofs.shelf.Lists.{map-append}
-use Rattle.std.specs.declared.option.Option.the-variants.{Some, None}
+use Rattle.std.specs.declared.option.Option.the-variants.{Some}
 use Rattle.model.specs.declared.items.Link.{Link}
 use Rattle.model.specs.declared.items.Step.{Step}
-use Rattle.model.specs.Records.{Given, given-at, turn-step, turned}
+use Rattle.model.specs.Records.{Given, turn-step, turned}
 use Rattle.model.specs.Walks.{Links}
 use Rattle.model.specs.Paths.{up, given-of}
 use Rattle.model.specs.PathLaws.{start, arrival, Joins, meets, Climbs}

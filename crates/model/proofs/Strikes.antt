@@ -11,7 +11,7 @@ use Rattle.std.proofs.shelf.Ways.{tells}
 use Rattle.model.specs.declared.items.Step.{Step}
 use Rattle.model.specs.Records.{Given, turn-step, turned}
 use Rattle.model.specs.Walks.{met, Distinct}
-use Rattle.model.specs.PathLaws.{arrival, Joins, meets, Strike, Strikes, none, one, Bare}
+use Rattle.model.specs.PathLaws.{arrival, Joins, meets, Strikes, none, one, Bare}
 use Rattle.model.proofs.Members.{met-head}
 use Rattle.model.proofs.Steps.{step, turn-turn, turned-cons, turned-turned, arrival-turn}
 
