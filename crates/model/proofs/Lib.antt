@@ -2,6 +2,7 @@ pub mod Members
 pub mod Links
 pub mod Walks
 pub mod Rooms
+pub mod Resuming
 pub mod Endings
 pub mod Ancestors
 pub mod Steps

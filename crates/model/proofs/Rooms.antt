@@ -11,7 +11,7 @@ use Rattle.std.specs.declared.option.Option.the-variants.{Some, None}
 use Rattle.model.specs.declared.items.Link.{Link}
 use Rattle.model.specs.Walks.{Links, no-link, at-root, met, Distinct, is-root, visit, walk, root-walk}
 use Rattle.model.proofs.Members.{Below, distinct-short, full}
-use Rattle.model.proofs.Walks.{Within, visit-same}
+use Rattle.model.proofs.Walks.{Within, visit-same, walk-again}
 
 -- room for the enodes that are not seen yet, of that many enodes
 pub record Room (size room : ℕ) (seen : List ℕ) : Type 0 where
@@ -28,6 +28,15 @@ room-less size room seen e r lt new =
     let short : length (e ∷ seen) ≤ size = distinct-short size (e ∷ seen) (new, r .distinct) below in
     record { distinct = (new, r .distinct); below = below; enough = omega (arith, r .enough) }
 
+room-suc : (size room : ℕ) (seen : List ℕ) (e : ℕ) → Room size (suc room) seen → e < size → met e seen ≡ false → Room size room (e ∷ seen)
+room-suc size room seen e r lt new =
+    let less : suc room - 1 ≡ room = omega arith in
+    subst (λ n. Room size n (e ∷ seen)) less (room-less size (suc room) seen e r lt new)
+
+-- where no room is left, every enode is seen
+pub room-none : (size : ℕ) (seen : List ℕ) (e : ℕ) → Room size 0 seen → e < size → met e seen ≡ true
+room-none size seen e r lt = full size seen (r .distinct) (r .below) (omega (arith, r .enough)) e lt
+
 -- the enodes that the list's enodes link to are in it
 abbrev pub Closed : Links → List ℕ → Type 0
 Closed next w = (x : ℕ) (l : Link) → met x w ≡ true → next x ≡ Some l → met (l .to) w ≡ true
@@ -35,7 +44,7 @@ Closed next w = (x : ℕ) (l : Link) → met x w ≡ true → next x ≡ Some l 
 module _ (next : Links) (root : Option ℕ) (size : ℕ) where
   -- with enough room, a walk ends only as a visit of its enode says
   pub walk-visit : (room : ℕ) (seen : List ℕ) (e : ℕ) → Room size room seen → e < size → walk next root room seen e ≡ visit e (λ x. walk next root (room - 1) (e ∷ seen) x) (met e seen) (is-root root e) (next e)
-  walk-visit zero seen e r lt = let m : met e seen ≡ true = full size seen (r .distinct) (r .below) (omega (arith, r .enough)) e lt in rw m
+  walk-visit zero seen e r lt = let m = room-none size seen e r lt in rw m
   walk-visit (suc room) seen e r lt =
       let less : room ≡ suc room - 1 = omega arith in
       ap (λ n. visit e (λ x. walk next root n (e ∷ seen) x) (met e seen) (is-root root e) (next e)) less
@@ -55,24 +64,20 @@ module _ (next : Links) (root : Option ℕ) (size : ℕ) where
     -- more room than enough changes nothing
     pub walk-same-room : (m n : ℕ) (seen : List ℕ) (e : ℕ) → Room size m seen → Room size n seen → e < size → walk next root m seen e ≡ walk next root n seen e
     walk-same-room zero n seen e r r′ lt =
-        let s : met e seen ≡ true = full size seen (r .distinct) (r .below) (omega (arith, r .enough)) e lt in
-        sym (walk-visit n seen e r′ lt ∙ rw s)
+        sym (walk-again next root n seen e (room-none size seen e r lt))
     walk-same-room (suc m) n seen e r r′ lt =
-        let less : suc m - 1 ≡ m = omega arith in
-        let rest : met e seen ≡ false → Room size m (e ∷ seen) = λ new. subst (λ k. Room size k (e ∷ seen)) less (room-less size (suc m) seen e r lt new) in
         visit-same e (λ x. walk next root m (e ∷ seen) x) (λ x. walk next root (n - 1) (e ∷ seen) x) (met e seen) (is-root root e) (next e)
-        (λ l new h. walk-same-room m (n - 1) (e ∷ seen) (l .to) (rest new) (room-less size n seen e r′ lt new) (within e l h))
+        (λ l new h. walk-same-room m (n - 1) (e ∷ seen) (l .to) (room-suc size m seen e r lt new) (room-less size n seen e r′ lt new) (within e l h))
         ∙ sym (walk-visit n seen e r′ lt)
 
     begins : (room : ℕ) (seen : List ℕ) (e : ℕ) → Room size room seen → e < size → (met e (walk next root room seen e .enodes) || met e seen) ≡ true
-    begins zero seen e r lt = full size seen (r .distinct) (r .below) (omega (arith, r .enough)) e lt
+    begins zero seen e r lt = room-none size seen e r lt
     begins (suc room) seen e r lt = grind (arith, tells)
 
     leads-on : (room : ℕ) (seen : List ℕ) (e : ℕ) → Room size room seen → e < size → (x : ℕ) (l : Link) → met x (walk next root room seen e .enodes) ≡ true → next x ≡ Some l → is-root root x ≡ false → (met (l .to) (walk next root room seen e .enodes) || met (l .to) seen) ≡ true
     leads-on zero seen e r lt x l h n nr = grind arith
     leads-on (suc room) seen e r lt x l h n nr =
-        let less : suc room - 1 ≡ room = omega arith in
-        let rest : met e seen ≡ false → Room size room (e ∷ seen) = λ new. subst (λ k. Room size k (e ∷ seen)) less (room-less size (suc room) seen e r lt new) in
+        let rest = room-suc size room seen e r lt in
         let ih : (k : Link) → next e ≡ Some k → met e seen ≡ false → met x (walk next root room (e ∷ seen) (k .to) .enodes) ≡ true → (met (l .to) (walk next root room (e ∷ seen) (k .to) .enodes) || met (l .to) (e ∷ seen)) ≡ true = λ k q s m. leads-on room (e ∷ seen) (k .to) (rest s) (within e k q) x l m n nr in
         let bg : (k : Link) → next e ≡ Some k → met e seen ≡ false → (met (k .to) (walk next root room (e ∷ seen) (k .to) .enodes) || met (k .to) (e ∷ seen)) ≡ true = λ k q s. begins room (e ∷ seen) (k .to) (rest s) (within e k q) in
         grind (arith, tells, ih, bg)
