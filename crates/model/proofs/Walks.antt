@@ -1,4 +1,4 @@
--- What a walk meets, where it ends, and how it goes on. Assumes nothing.
+-- What a walk meets, by the links that it follows. Assumes nothing.
 use Prim.Native.Nat.{ℕ, zero, suc, _<_, _≤_}
 use mathlib.Core.Path.{_≡_, refl, _∙_, ap}
 use mathlib.Core.Bool.{Bool, true, false, _||_}
