@@ -1,1 +1,13 @@
 pub mod ArgPairs
+pub mod Members
+pub mod Links
+pub mod Walks
+pub mod Rooms
+pub mod Resuming
+pub mod Endings
+pub mod Ancestors
+pub mod Steps
+pub mod Strikes
+pub mod Confluence
+pub mod Paths
+pub mod PathLaws

@@ -1,3 +1,4 @@
 pub mod equality;
 pub mod error;
 pub mod items;
+pub mod laws;
