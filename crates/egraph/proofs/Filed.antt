@@ -30,7 +30,7 @@ use Rattle.egraph.specs.Filing.{row-kind, row-of, enode-under}
 use Rattle.egraph.specs.Table.{listed, places, Fits}
 use Rattle.egraph.specs.Records.{enode-of, records-of, no-enode, under, Headed}
 use Rattle.egraph.specs.View.{case-of, given-list, size, Ends-filed, In-lists, Within-limits, Arguments-filed}
-use Rattle.egraph.proofs.Newest.{newest-none}
+use Rattle.model.proofs.Links.{newest-skip}
 
 -- a new enode has no given
 headed-more : (gs : List M.Given) (es : List ENode) (row : ENode) → row .newest ≡ None → Ends-known gs (length es) → Headed gs es → Headed gs (es ++ (row ∷ []))
@@ -39,7 +39,7 @@ headed-more gs es row none known headed e lt = elim (cases-lt e (length es)) [
   | inr above ↦
       let at : length es ≡ e = omega (arith, length-push es row) in
       let no : newest (under e) gs (length gs) ≡ None =
-      newest-none (under e) gs (length gs) (λ k lk. ne-eqb (given-at gs k .from) e (λ q. omega (arith, known k lk .0))) in
+      newest-skip (under e) gs (length gs) 0 (omega arith) (λ k _ lk. ne-eqb (given-at gs k .from) e (λ q. omega (arith, known k lk .0))) in
       rw (getD-push es row no-enode e at, none, no)
 ]
 

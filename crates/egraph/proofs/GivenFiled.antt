@@ -37,7 +37,7 @@ use Rattle.egraph.specs.Table.{listed, places}
 use Rattle.egraph.specs.Records.{enode-of, kind-of, given-of, givens-of, no-enode, no-row, under, past, range-end, Ranged, Listed, Headed}
 use Rattle.egraph.specs.View.{case-of, given-list, size, Arguments-filed, Ends-filed, In-lists}
 use Rattle.egraph.specs.Filing.{row-kind, row-of, enode-under, with-newest, Given-filed}
-use Rattle.egraph.proofs.Newest.{newest-append}
+use Rattle.model.proofs.Links.{newest-append, newest-push}
 
 -- argument pairs behind those of a given do not change it
 kind-same : (qs ps : List Pair) (k : Kind) → range-end k ≤ length qs → kind-of (qs ++ ps) k ≡ kind-of qs k
@@ -83,14 +83,6 @@ range-new n (expl.Unknown x a b) = omega arith
 arg-count-push : (gs : List M.Given) (g : M.Given) → arg-count (gs ++ (g ∷ [])) ≡ arg-count gs + length (args-of (g .kind))
 arg-count-push [] g = omega arith
 arg-count-push (h ∷ gs) g = let ih = arg-count-push gs g in omega arith
-
--- one given more, found where it passes
-newest-push : (test : M.Given → Bool) (gs : List M.Given) (g : M.Given) → newest test (gs ++ (g ∷ [])) (length (gs ++ (g ∷ []))) ≡ cond (test g) (Some (length gs)) (newest test gs (length gs))
-newest-push test gs g =
-    let long : length (gs ++ (g ∷ [])) ≡ suc (length gs) = length-push gs g ∙ add-one (length gs) in
-    let at : given-at (gs ++ (g ∷ [])) (length gs) ≡ g = getD-push gs g no-given (length gs) refl in
-    let before : newest test (gs ++ (g ∷ [])) (length gs) ≡ newest test gs (length gs) = newest-append test gs (g ∷ []) (length gs) (omega arith) in
-    ap (newest test (gs ++ (g ∷ []))) long ∙ cc (at, before)
 
 -- what holds at each place of a list, and at one more
 push-each : {T : Type 0} (P : ℕ → T → Type 0) (xs : List T) (y d : T) → ((k : ℕ) → k < length xs → P k (getD xs k d)) → P (length xs) y → (k : ℕ) → k < length (xs ++ (y ∷ [])) → P k (getD (xs ++ (y ∷ [])) k d)
@@ -157,15 +149,18 @@ module _ (t u : Records) (e : EqualityExpl) (frame : ℕ) (f : Given-filed t e f
       (λ k lt. lists .0 k lt ∙ ap past (sym (old k (getD (listed (t .givens)) k no-row .from) (omega arith))))
       (lists .1 (from-of e) from ∙ ap (λ n. past (newest (under (from-of e)) (given-list t) n)) (sym rows-long) ∙ ap past (sym (old (length (listed (t .givens))) (from-of e) (omega arith)))))
 
+  more-long : length (given-list t ++ (new ∷ [])) ≡ suc (length (given-list t))
+  more-long = length-push (given-list t) new ∙ add-one (length (given-list t))
+
   headed-more : from-of e < size t → In-lists t → Headed (given-list u) (listed (u .enodes))
   headed-more from lists x lt = elim (cases-eq x (from-of e)) [
     | inl same ↦
         let test : eqb (from-of e) x ≡ true = eq-eqb (from-of e) x (sym same) in
-        rw (f .enodes, list-more, newest-push (under x) (given-list t) new, test, same, getD-set-same (listed (t .enodes)) (from-of e) (with-newest (enode-under t e) (length (listed (t .givens)))) no-enode from) (ap suc rows-long)
+        rw (f .enodes, list-more, more-long, newest-push (under x) (given-list t) new, test, same, getD-set-same (listed (t .enodes)) (from-of e) (with-newest (enode-under t e) (length (listed (t .givens)))) no-enode from) (ap suc rows-long)
     | inr other ↦
         let test : eqb (from-of e) x ≡ false = ne-eqb (from-of e) x (λ q. other (sym q)) in
         let low : x < size t = omega (arith, size-same) in
-        rw (f .enodes, list-more, newest-push (under x) (given-list t) new, test, getD-set-other (listed (t .enodes)) (from-of e) x (with-newest (enode-under t e) (length (listed (t .givens)))) no-enode other) (lists .1 x low)
+        rw (f .enodes, list-more, more-long, newest-push (under x) (given-list t) new, test, getD-set-other (listed (t .enodes)) (from-of e) x (with-newest (enode-under t e) (length (listed (t .givens)))) no-enode other) (lists .1 x low)
   ]
 
   pub in-lists : from-of e < size t → In-lists t → In-lists u

@@ -1,6 +1,9 @@
 pub mod Lists
-pub mod Newest
 pub mod Refused
 pub mod GivenChecks
 pub mod Filed
 pub mod GivenFiled
+pub mod GivenList
+pub mod LinkSearch
+pub mod OldestSearch
+pub mod Sizes

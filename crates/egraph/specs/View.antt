@@ -23,12 +23,15 @@ given-list t = givens-of (listed (t .arguments)) (listed (t .givens))
 abbrev pub size : Records → ℕ
 size t = length (listed (t .enodes))
 
+abbrev pub records-in : Records → M.Records
+records-in t = records-of (listed (t .enodes)) (listed (t .givens)) (listed (t .arguments))
+
 -- the case that the tables hold, with the frames of a rule
 abbrev pub case-of : Frames → Records → Case
 case-of m t = record {
   room = record { enodes = places (t .enodes); givens = places (t .givens); arguments = places (t .arguments) };
   frames = m;
-  records = records-of (listed (t .enodes)) (listed (t .givens)) (listed (t .arguments));
+  records = records-in t;
 }
 
 -- the tables are within their limits

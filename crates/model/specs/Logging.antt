@@ -71,8 +71,11 @@ new-given under from to kind k =
 abbrev pub on-frames : Case → Result ℕ Refusal × Frames → Outcome
 on-frames k o = (o .0, record { room = k .room; frames = o .1; records = k .records })
 
+abbrev pub between : ℕ → ℕ → Given → Bool
+between from to g = eqb (g .from) from && eqb (g .to) to
+
 -- an enode's oldest given to an end, whichever frames count
 abbrev pub get-given : ℕ → ℕ → Records → Result (Option ℕ) Refusal
 get-given from to r =
     and-then (all-known (length (r .enodes)) (from ∷ to ∷ []))
-    (Ok (oldest-from 0 (λ g. eqb (g .from) from && eqb (g .to) to) (r .givens)))
+    (Ok (oldest-from 0 (between from to) (r .givens)))
