@@ -7,3 +7,5 @@ pub mod GivenList
 pub mod LinkSearch
 pub mod OldestSearch
 pub mod Sizes
+pub mod Places
+pub mod OnWalk

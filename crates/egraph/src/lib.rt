@@ -7,3 +7,4 @@ pub mod links;
 pub mod logging;
 pub mod records;
 pub mod table;
+pub mod walk;

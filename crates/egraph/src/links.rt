@@ -13,11 +13,11 @@ use model::items::Link;
 
 impl<'a, R: FrameRule> EGraph<'a, R> {
     // The newest given of the enode whose frame counts.
-    pub(crate) fn link(&self, enode: usize) -> Option<Link>
+    pub(crate) fn link(&self, enode: u32) -> Option<Link>
         requires { ⌜ enode < size (now self .records) ⌝ }
         ensures { λ r. ⌜ r ≡ links (R·FrameRule .means (now (self .entry) .rule) .counts) (given-list (now (self .entry) .records)) enode ⌝ }
     {
-        let mut next = self.records.enodes.rows[enode].newest;
+        let mut next = self.records.enodes.rows[enode as usize].newest;
         while let Some(number) = next {
             let given = self.records.givens.rows[number as usize];
             if self.rule.counts(given.frame) {

@@ -1,0 +1,70 @@
+// Root walks: from an enode along its links, to an enode with no link, before one met again, or to a root that is told.
+ghost use mathlib.Core.Path.{_≡_};
+ghost use Prim.Native.Nat.{_+_, _<_, _≤_};
+ghost use lib.ListN.{length, replicate};
+ghost use Rattle.model.specs.Walks.{is-root, links, root-walk};
+ghost use Rattle.egraph.specs.View.{given-list, size};
+ghost use Rattle.egraph.specs.Walking.{placed, told-walk};
+use crate::egraph::EGraph;
+use frames::rule::FrameRule;
+
+// How a root walk went: the enode that it tells, if any, and how many enodes it met.
+#[derive(Clone, Copy)]
+pub struct RootWalk {
+    pub tells: Option<u32>,
+    pub len: usize,
+}
+
+// The mark bytes of one walk, cleared at its end on each way out.
+struct Marks<'a> {
+    bytes: &'a mut [u8],
+}
+
+impl Drop for Marks<'_> {
+    fn drop(self)
+        ensures { λ _. ⌜ now (self .exit .0) ≡ replicate (length (now (self .entry .bytes))) 0 ⌝ }
+    {
+        self.bytes.fill(0);
+        let Marks { bytes: _ } = self;
+    }
+}
+
+fn is_root(root: Option<u32>, enode: u32) -> bool
+    ensures { λ r. ⌜ r ≡ is-root root enode ⌝ }
+{
+    match root {
+        Some(told) => told == enode,
+        None => false,
+    }
+}
+
+impl<'a, R: FrameRule> EGraph<'a, R> {
+    // Writes the walk from `from` into `out`, from the place `base` on.
+    fn walk(&self, from: u32, root: Option<u32>, marks: &mut [u8], out: &mut [u32], base: usize) -> RootWalk
+        requires known { ⌜ from < size (now self .records) ⌝ }
+        requires bytes { ⌜ size (now self .records) ≤ length (now marks) ⌝ }
+        requires places { ⌜ base + size (now self .records) ≤ length (now out) ⌝ }
+        ensures walk { λ r. ⌜ r ≡ told-walk (root-walk (links (R·FrameRule .means (now (self .entry) .rule) .counts) (given-list (now (self .entry) .records))) (size (now (self .entry) .records)) root from) ⌝ }
+        ensures marks { λ r. ⌜ now (marks .exit) ≡ replicate (length (now (marks .entry))) 0 ⌝ }
+        ensures out { λ r. ⌜ now (out .exit) ≡ placed base (root-walk (links (R·FrameRule .means (now (self .entry) .rule) .counts) (given-list (now (self .entry) .records))) (size (now (self .entry) .records)) root from .enodes) (now (out .entry)) ⌝ }
+    {
+        marks.fill(0);
+        let guard = Marks { bytes: marks };
+        let mut at = from;
+        for len in 0..self.records.enodes.len {
+            if guard.bytes[at as usize] != 0 {
+                return RootWalk { tells: Some(at), len };
+            }
+            guard.bytes[at as usize] = 1;
+            out[base + len] = at;
+            if is_root(root, at) {
+                return RootWalk { tells: Some(at), len: len + 1 };
+            }
+            let Some(link) = self.link(at) else {
+                return RootWalk { tells: None, len: len + 1 };
+            };
+            at = link.to;
+        }
+        RootWalk { tells: Some(at), len: self.records.enodes.len }
+    }
+}
