@@ -14,10 +14,10 @@ use Rattle.std.specs.declared.option.Option.{Option}
 use Rattle.std.specs.declared.option.Option.the-variants.{Some, None}
 use Rattle.model.specs.declared.items.Link.{Link}
 use Rattle.model.specs.Walks.{Links, Walk, no-link, again, at-root, met, is-root, root-walk}
-use Rattle.model.proofs.Members.{met-append, distinct-short, full}
+use Rattle.model.proofs.Members.{met-append, distinct-short}
 use Rattle.model.proofs.Resuming.{resume, Partway, partway-start, partway-more, resume-start, resume-again, resume-stops, resume-ends, resume-goes-on}
-use Rattle.egraph.specs.declared.walk.RootWalk.{RootWalk}
-use Rattle.egraph.specs.Walking.{placed, told-walk}
+use Rattle.model.specs.declared.items.RootWalk.{RootWalk}
+use Rattle.model.specs.WalkCalls.{placed, told-walk}
 use Rattle.egraph.proofs.Places.{placed-none, placed-push}
 
 abbrev pub mark : Bool → ℕ
@@ -60,10 +60,6 @@ module _ (next : Links) (root : Option ℕ) (size from base : ℕ) (before : Lis
 
     pub walk-again : (getD marks at 0 ≡ 0 → ⊥) → Ended next root size from base before out (record { tells = Some at; len = len })
     walk-again h = let m = w .marked at (w .here) in seen (elim (cases-bool (met at (w .done))) [ inl e ↦ e | inr e ↦ absurd (h (m ∙ ap mark e)) ])
-
-    -- all enodes are met
-    pub walk-full : len ≡ size → Ended next root size from base before out (record { tells = Some at; len = len })
-    walk-full h = seen (full size (w .done) (w .partway .distinct) (w .partway .below) (omega (arith, w .long)) at (w .here))
 
     module _ (new : getD marks at 0 ≡ 0) (fits : base + size ≤ length before) (room : size ≤ length marks) where
       fresh : met at (w .done) ≡ false

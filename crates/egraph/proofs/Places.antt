@@ -7,7 +7,7 @@ use native.Mathlib.Omega.{arith}
 use lib.ListN.{length, getD, set, take, drop, length-append, length-take, length-drop}
 use lib.Seq.{drop-cons}
 use Rattle.std.proofs.shelf.Lists.{take-append-drop, set-at, length-push, length-take-le}
-use Rattle.egraph.specs.Walking.{placed}
+use Rattle.model.specs.WalkCalls.{placed}
 
 module _ {T : Type 0} where
   pub placed-none : (base : ℕ) (out : List T) → placed base [] out ≡ out

@@ -2,4 +2,3 @@ pub mod Table
 pub mod Records
 pub mod View
 pub mod Filing
-pub mod Walking

@@ -5,6 +5,7 @@ ghost use Rattle.model.specs.Refusals.{told};
 ghost use Rattle.model.specs.Checks.{all-known};
 ghost use Rattle.model.specs.Explanations.{pairs-of, from-of, to-of, kind-of};
 ghost use Rattle.model.specs.Logging.{pair-ends, given-checks};
+ghost use Rattle.model.specs.WalkCalls.{long-enough};
 ghost use Rattle.egraph.specs.View.{size, case-of, room-checks};
 ghost use Rattle.model.specs.Records.{args-of};
 use crate::egraph::EGraph;
@@ -14,6 +15,16 @@ use model::error::Fault;
 use model::error::TableName;
 use model::items::ArgPairs;
 use model::items::EqualityExpl;
+
+// Whether a table that is lent has the places needed.
+pub(crate) fn check_length(needed: usize, len: usize) -> Result<(), Fault>
+    ensures { λ r. ⌜ told r ≡ long-enough needed len ⌝ }
+{
+    if len < needed {
+        return Err(Fault::new(Cause::Short(needed)));
+    }
+    Ok(())
+}
 
 impl<'a, R: FrameRule> EGraph<'a, R> {
     pub(crate) fn check_enode(&self, enode: u32) -> Result<(), Fault>

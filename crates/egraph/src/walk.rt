@@ -4,16 +4,14 @@ ghost use Prim.Native.Nat.{_+_, _<_, _≤_};
 ghost use lib.ListN.{length, replicate};
 ghost use Rattle.model.specs.Walks.{is-root, links, root-walk};
 ghost use Rattle.egraph.specs.View.{given-list, size};
-ghost use Rattle.egraph.specs.Walking.{placed, told-walk};
+ghost use Rattle.model.specs.Refusals.{told};
+ghost use Rattle.model.specs.WalkCalls.{placed, told-walk, walk-checks, path-to-root};
+ghost use Rattle.model.specs.PathLaws.{Walk-laws};
+use crate::checks::check_length;
 use crate::egraph::EGraph;
 use frames::rule::FrameRule;
-
-// How a root walk went: the enode that it tells, if any, and how many enodes it met.
-#[derive(Clone, Copy)]
-pub struct RootWalk {
-    pub tells: Option<u32>,
-    pub len: usize,
-}
+use model::error::Fault;
+use model::items::RootWalk;
 
 // The mark bytes of one walk, cleared at its end on each way out.
 struct Marks<'a> {
@@ -66,5 +64,27 @@ impl<'a, R: FrameRule> EGraph<'a, R> {
             at = link.to;
         }
         RootWalk { tells: Some(at), len: self.records.enodes.len }
+    }
+
+    fn check_walk(&self, from: u32, root: Option<u32>, marks: usize, places: usize) -> Result<(), Fault>
+        ensures { λ r. ⌜ told r ≡ walk-checks (size (now (self .entry) .records)) from root marks places ⌝ }
+    {
+        let size = self.records.enodes.len;
+        check_length(size, marks)?;
+        check_length(size, places)?;
+        self.check_enode(from)?;
+        match root {
+            Some(told) => self.check_enode(told),
+            None => Ok(()),
+        }
+    }
+
+    // The root walk from an enode, which ends at `root` where it is told one. Its enodes are written into `path`; `marks` is scratch.
+    pub fn path_to_root(&self, from: u32, root: Option<u32>, marks: &mut [u8], path: &mut [u32]) -> Result<RootWalk, Fault>
+        ensures outcome { λ r. ⌜ (told r, (now (marks .exit), now (path .exit))) ≡ path-to-root (links (R·FrameRule .means (now (self .entry) .rule) .counts) (given-list (now (self .entry) .records))) (size (now (self .entry) .records)) from root (now (marks .entry)) (now (path .entry)) ⌝ }
+        ensures laws { λ _. ⌜ Walk-laws (R·FrameRule .means (now (self .entry) .rule) .counts) (given-list (now (self .entry) .records)) (size (now (self .entry) .records)) ⌝ }
+    {
+        self.check_walk(from, root, marks.len(), path.len())?;
+        Ok(self.walk(from, root, marks, path, 0))
     }
 }

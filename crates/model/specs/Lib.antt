@@ -8,3 +8,4 @@ pub mod Walks
 pub mod Paths
 pub mod PathLaws
 pub mod Format
+pub mod WalkCalls

@@ -21,6 +21,13 @@ pub struct Link {
     pub to: u32,
 }
 
+// How a root walk went: the enode that it tells, if any, and how many enodes it met.
+#[derive(Clone, Copy)]
+pub struct RootWalk {
+    pub tells: Option<u32>,
+    pub len: usize,
+}
+
 // An open frame, with the number of givens logged under it.
 #[derive(Clone, Copy)]
 pub struct Frame {
