@@ -9,3 +9,5 @@ pub mod OldestSearch
 pub mod Sizes
 pub mod Places
 pub mod OnWalk
+pub mod CommonTail
+pub mod TwoWalks

@@ -5,6 +5,7 @@ pub mod equality;
 mod filing;
 pub mod links;
 pub mod logging;
+pub mod path;
 pub mod records;
 pub mod table;
 pub mod walk;

@@ -38,11 +38,12 @@ fn is_root(root: Option<u32>, enode: u32) -> bool
 
 impl<'a, R: FrameRule> EGraph<'a, R> {
     // Writes the walk from `from` into `out`, from the place `base` on.
-    fn walk(&self, from: u32, root: Option<u32>, marks: &mut [u8], out: &mut [u32], base: usize) -> RootWalk
+    pub(crate) fn walk(&self, from: u32, root: Option<u32>, marks: &mut [u8], out: &mut [u32], base: usize) -> RootWalk
         requires known { ⌜ from < size (now self .records) ⌝ }
         requires bytes { ⌜ size (now self .records) ≤ length (now marks) ⌝ }
         requires places { ⌜ base + size (now self .records) ≤ length (now out) ⌝ }
         ensures walk { λ r. ⌜ r ≡ told-walk (root-walk (links (R·FrameRule .means (now (self .entry) .rule) .counts) (given-list (now (self .entry) .records))) (size (now (self .entry) .records)) root from) ⌝ }
+        ensures bounds { λ r. ⌜ (1 ≤ r .len) × (r .len ≤ size (now (self .entry) .records)) ⌝ }
         ensures marks { λ r. ⌜ now (marks .exit) ≡ replicate (length (now (marks .entry))) 0 ⌝ }
         ensures out { λ r. ⌜ now (out .exit) ≡ placed base (root-walk (links (R·FrameRule .means (now (self .entry) .rule) .counts) (given-list (now (self .entry) .records))) (size (now (self .entry) .records)) root from .enodes) (now (out .entry)) ⌝ }
     {

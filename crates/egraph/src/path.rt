@@ -1,0 +1,54 @@
+// The path of a pair: up one enode's root walk to the first enode that both walks share, then down the other's.
+ghost use mathlib.Core.Path.{_≡_};
+ghost use Prim.Native.Nat.{_+_, _*_, _<_, _≤_};
+ghost use lib.ListN.{length};
+ghost use Rattle.std.specs.Options.{Cases as BySome};
+ghost use Rattle.std.specs.declared.option.Option.the-variants.{None};
+ghost use Rattle.model.specs.Walks.{links};
+ghost use Rattle.model.specs.Paths.{path, shared};
+ghost use Rattle.model.specs.WalkCalls.{cleared};
+ghost use Rattle.egraph.specs.View.{given-list, size};
+ghost use Rattle.egraph.specs.SimplePath.{first-part, second-part, Found-path};
+use crate::egraph::EGraph;
+use frames::rule::FrameRule;
+use model::items::Pair;
+
+// How long the two walks of a pair are, which stand one behind the other in the scratch, and how long their common tail is.
+pub struct SimplePath {
+    pub from_to_root: usize,
+    pub to_to_root: usize,
+    pub shared: usize,
+}
+
+// The length of the common tail of the first `f` enodes and the `t` behind them.
+fn common_tail(walks: &[u32], f: usize, t: usize) -> usize
+    requires { ⌜ f + t ≤ length (now walks) ⌝ }
+    ensures { λ r. ⌜ r ≡ shared (first-part f (now (walks .entry))) (second-part f t (now (walks .entry))) ⌝ }
+{
+    let mut shared = 0;
+    while shared < f && shared < t && walks[f - 1 - shared] == walks[f + t - 1 - shared] {
+        shared += 1;
+    }
+    shared
+}
+
+impl<'a, R: FrameRule> EGraph<'a, R> {
+    // Walks from both enodes; there is a path where the walks end alike.
+    pub(crate) fn get_simple_path(&self, pair: Pair, marks: &mut [u8], walks: &mut [u32]) -> Option<SimplePath>
+        requires from { ⌜ pair .from < size (now self .records) ⌝ }
+        requires to { ⌜ pair .to < size (now self .records) ⌝ }
+        requires bytes { ⌜ size (now self .records) ≤ length (now marks) ⌝ }
+        requires places { ⌜ 2 * size (now self .records) ≤ length (now walks) ⌝ }
+        ensures found { λ r. ⌜ BySome r (path (links (R·FrameRule .means (now (self .entry) .rule) .counts) (given-list (now (self .entry) .records))) (size (now (self .entry) .records)) (pair .from) (pair .to) ≡ None) (Found-path (links (R·FrameRule .means (now (self .entry) .rule) .counts) (given-list (now (self .entry) .records))) (size (now (self .entry) .records)) pair (now (walks .exit))) ⌝ }
+        ensures marks { λ _. ⌜ now (marks .exit) ≡ cleared (now (marks .entry)) ⌝ }
+    {
+        let from = self.walk(pair.from, None, marks, walks, 0);
+        let root = walks[from.len - 1];
+        let to = self.walk(pair.to, Some(root), marks, walks, from.len);
+        if walks[from.len + to.len - 1] != root {
+            return None;
+        }
+        let shared = common_tail(walks, from.len, to.len);
+        Some(SimplePath { from_to_root: from.len, to_to_root: to.len, shared })
+    }
+}
