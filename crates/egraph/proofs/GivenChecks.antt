@@ -46,7 +46,7 @@ pub record Passed (t : Records) (from to : ℕ) (kind : Kind) : Type 0 where
   pub given-room : length (listed (t .givens)) + 1 ≤ min 65536 (places (t .givens))
   pub argument-room : length (listed (t .arguments)) + length (args-of kind) ≤ min 131072 (places (t .arguments))
 
-both-pass : {A : Type 0} (c : Check) (r : Result A Refusal) (a : A) → Ok a ≡ and-then c r → (c ≡ Ok tt) × (Ok a ≡ r)
+pub both-pass : {A : Type 0} (c : Check) (r : Result A Refusal) (a : A) → Ok a ≡ and-then c r → (c ≡ Ok tt) × (Ok a ≡ r)
 both-pass (Ok tt) r a h = (refl, h)
 both-pass (Err e) r a h = absurd (let z : _≡_ {A = ℕ} 0 1 = cc in omega arith)
 
@@ -54,7 +54,7 @@ required : (b : Bool) (r : Refusal) → require b r ≡ Ok tt → b ≡ true
 required true r h = refl
 required false r h = absurd (let z : _≡_ {A = ℕ} 0 1 = cc in omega arith)
 
-first-known : (size e : ℕ) (es : List ℕ) → all-known size (e ∷ es) ≡ Ok tt → (e < size) × (all-known size es ≡ Ok tt)
+pub first-known : (size e : ℕ) (es : List ℕ) → all-known size (e ∷ es) ≡ Ok tt → (e < size) × (all-known size es ≡ Ok tt)
 first-known size e es h = go (ltb e size) refl h
   where
     go : (b : Bool) → ltb e size ≡ b → cond b (all-known size es) (Err (unknown-enode e)) ≡ Ok tt → (e < size) × (all-known size es ≡ Ok tt)

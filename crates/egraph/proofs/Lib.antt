@@ -11,3 +11,5 @@ pub mod Places
 pub mod OnWalk
 pub mod CommonTail
 pub mod TwoWalks
+pub mod PathAnswers
+pub mod StepPlaces

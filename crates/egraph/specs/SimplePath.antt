@@ -1,13 +1,15 @@
 -- Where the two walks of a pair stand in the scratch, and the path that they make. Assumes nothing.
-use Prim.Native.Nat.{ℕ, _+_, _≤_}
+use Prim.Native.Nat.{ℕ, _+_, _<_, _≤_}
 use mathlib.Core.Path.{_≡_}
-use mathlib.Core.List.{List}
-use lib.ListN.{length, take, drop}
+use mathlib.Core.List.{List, map}
+use lib.ListN.{length, getD, take, drop}
 use Rattle.std.specs.declared.option.Option.{Option}
 use Rattle.std.specs.declared.option.Option.the-variants.{Some, None}
 use Rattle.model.specs.declared.items.Pair.{Pair}
 use Rattle.model.specs.Walks.{Links, root-walk, last}
-use Rattle.model.specs.Paths.{path, join, shared}
+use Rattle.model.specs.declared.items.Step.{Step}
+use Rattle.model.specs.Records.{turned}
+use Rattle.model.specs.Paths.{path, join, shared, up}
 use Rattle.egraph.specs.declared.path.SimplePath.{SimplePath}
 
 -- the first f places, and the t places behind them
@@ -31,3 +33,14 @@ pub record Found-path (next : Links) (size : ℕ) (p : Pair) (walks : List ℕ) 
   pub second : second-part (s .«from_to_root») (s .«to_to_root») walks ≡ walk-to next size p
   pub tail : s .shared ≡ shared (walk-from next size p) (walk-to next size p)
   pub is : path next size (p .from) (p .to) ≡ Some (join next (walk-from next size p) (walk-to next size p))
+
+-- the enodes of a part of the scratch are on the books
+abbrev pub All-below : ℕ → List ℕ → Type 0
+All-below size es = (k : ℕ) → k < length es → getD es k 0 < size
+
+-- the steps up the links of some enodes, and those down again
+abbrev pub rising-steps : Links → List ℕ → List Step
+rising-steps next es = map (up next) es
+
+abbrev pub falling-steps : Links → List ℕ → List Step
+falling-steps next es = turned (map (up next) es)

@@ -7,5 +7,6 @@ pub mod links;
 pub mod logging;
 pub mod path;
 pub mod records;
+mod steps;
 pub mod table;
 pub mod walk;

@@ -6,14 +6,20 @@ ghost use Rattle.std.specs.Options.{Cases as BySome};
 ghost use Rattle.std.specs.declared.option.Option.the-variants.{None};
 ghost use Rattle.model.specs.Walks.{links};
 ghost use Rattle.model.specs.Paths.{path, shared};
-ghost use Rattle.model.specs.WalkCalls.{cleared};
+ghost use Rattle.model.specs.Refusals.{told};
+ghost use Rattle.model.specs.WalkCalls.{cleared, pair-checks, check-eq-call};
+ghost use Rattle.model.specs.PathLaws.{Walk-laws};
 ghost use Rattle.egraph.specs.View.{given-list, size};
 ghost use Rattle.egraph.specs.SimplePath.{first-part, second-part, Found-path};
+use crate::checks::check_length;
 use crate::egraph::EGraph;
 use frames::rule::FrameRule;
+use model::error::Fault;
+use model::error::asked;
 use model::items::Pair;
 
 // How long the two walks of a pair are, which stand one behind the other in the scratch, and how long their common tail is.
+#[derive(Drop)]
 pub struct SimplePath {
     pub from_to_root: usize,
     pub to_to_root: usize,
@@ -50,5 +56,25 @@ impl<'a, R: FrameRule> EGraph<'a, R> {
         }
         let shared = common_tail(walks, from.len, to.len);
         Some(SimplePath { from_to_root: from.len, to_to_root: to.len, shared })
+    }
+
+    fn check_pair(&self, pair: Pair, marks: usize, walks: usize) -> Result<(), Fault>
+        ensures { λ r. ⌜ told r ≡ pair-checks (size (now (self .entry) .records)) pair marks walks ⌝ }
+    {
+        let size = self.records.enodes.len;
+        check_length(size, marks)?;
+        check_length(2 * size, walks)?;
+        self.check_enode(pair.from)?;
+        self.check_enode(pair.to)
+    }
+
+    // Whether the root walks of two enodes share one. `marks` and `walks` are scratch.
+    pub fn check_eq(&self, from: u32, to: u32, marks: &mut [u8], walks: &mut [u32]) -> Result<bool, Fault>
+        ensures outcome { λ r. ⌜ (told r, now (marks .exit)) ≡ check-eq-call (links (R·FrameRule .means (now (self .entry) .rule) .counts) (given-list (now (self .entry) .records))) (size (now (self .entry) .records)) (record { from = from; to = to }) (now (marks .entry)) (length (now (walks .entry))) ⌝ }
+        ensures laws { λ _. ⌜ Walk-laws (R·FrameRule .means (now (self .entry) .rule) .counts) (given-list (now (self .entry) .records)) (size (now (self .entry) .records)) ⌝ }
+    {
+        let pair = Pair { from, to };
+        asked(pair, self.check_pair(pair, marks.len(), walks.len()))?;
+        Ok(self.get_simple_path(pair, marks, walks).is_some())
     }
 }

@@ -85,3 +85,8 @@ unreadable place = refuse 10 place
 -- the same refusal, of the question for a pair
 abbrev pub for-pair : Pair → Refusal → Refusal
 for-pair p r = record { number = r .number; values = r .values; pair = Some p; level = r .level; argument = r .argument }
+
+-- what the question for a pair answers: a refusal names the pair
+abbrev pub asked : {A : Type 0} → Pair → Result A Refusal → Result A Refusal
+asked p (Ok a) = Ok a
+asked p (Err r) = Err (for-pair p r)

@@ -11,7 +11,7 @@ use Rattle.std.specs.declared.result.Result.the-variants.{Ok, Err}
 use Rattle.model.specs.declared.items.Pair.{Pair}
 use Rattle.model.specs.declared.items.Step.{Step}
 use Rattle.model.specs.declared.items.RootWalk.{RootWalk}
-use Rattle.model.specs.Refusals.{Refusal, short, for-pair}
+use Rattle.model.specs.Refusals.{Refusal, short, asked}
 use Rattle.model.specs.Checks.{Check, require, and-then, unless-refused, all-known, optional}
 use Rattle.model.specs.Walks.{Links, Walk, tells, root-walk, check-eq}
 use Rattle.model.specs.Paths.{Path, path}
@@ -48,11 +48,6 @@ path-to-root next size from root marks out =
 abbrev pub pair-checks : ℕ → Pair → ℕ → ℕ → Check
 pair-checks size p marks walks =
     and-then (long-enough size marks) (and-then (long-enough (2 * size) walks) (all-known size (p .from ∷ p .to ∷ [])))
-
--- a refusal of a question names its pair
-abbrev pub asked : {A : Type 0} → Pair → Result A Refusal → Result A Refusal
-asked p (Ok a) = Ok a
-asked p (Err r) = Err (for-pair p r)
 
 -- answers whether the walks share an enode, with the mark bytes that it leaves
 abbrev pub check-eq-call : Links → ℕ → Pair → List ℕ → ℕ → Result Bool Refusal × List ℕ

@@ -1,6 +1,7 @@
 // Why a call is refused, and where in a question.
 ghost use mathlib.Core.Path.{_≡_};
 ghost use Rattle.std.specs.declared.option.Option.the-variants.{None};
+ghost use Rattle.model.specs.Refusals.{asked as asked-for, told};
 use crate::items::Argument;
 use crate::items::Pair;
 
@@ -39,5 +40,15 @@ impl Fault {
         ensures { λ r. ⌜ r ≡ record { cause = cause; pair = None; level = 0; argument = None } ⌝ }
     {
         Fault { cause, pair: None, level: 0, argument: None }
+    }
+}
+
+// The same answer of the question for a pair, which its refusal names.
+pub fn asked(pair: Pair, answer: Result<(), Fault>) -> Result<(), Fault>
+    ensures { λ r. ⌜ told r ≡ asked-for pair (told answer) ⌝ }
+{
+    match answer {
+        Ok(()) => Ok(()),
+        Err(fault) => Err(Fault { cause: fault.cause, pair: Some(pair), level: fault.level, argument: fault.argument }),
     }
 }
