@@ -47,7 +47,7 @@ module _ (t : Records) (limits : Within-limits t) where
   abbrev pub row : ℕ → Row
   row n = getD (t .givens .rows .now) n no-row
 
-  given-count : length (given-list t) ≡ t .givens .len
+  pub given-count : length (given-list t) ≡ t .givens .len
   given-count = length-map (listed (t .givens)) (given-of (listed (t .arguments))) ∙ length-take-le (t .givens .len) (t .givens .rows .now) (limits .1 .0)
 
   -- a given by its row

@@ -13,3 +13,4 @@ pub mod CommonTail
 pub mod TwoWalks
 pub mod PathAnswers
 pub mod StepPlaces
+pub mod PathSteps

@@ -7,6 +7,7 @@ pub mod links;
 pub mod logging;
 pub mod path;
 pub mod records;
+pub mod stack;
 mod steps;
 pub mod table;
 pub mod walk;

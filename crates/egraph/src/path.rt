@@ -3,11 +3,11 @@ ghost use mathlib.Core.Path.{_≡_};
 ghost use Prim.Native.Nat.{_+_, _*_, _<_, _≤_};
 ghost use lib.ListN.{length};
 ghost use Rattle.std.specs.Options.{Cases as BySome};
-ghost use Rattle.std.specs.declared.option.Option.the-variants.{None};
+ghost use Rattle.std.specs.declared.option.Option.the-variants.{Some, None};
 ghost use Rattle.model.specs.Walks.{links};
 ghost use Rattle.model.specs.Paths.{path, shared};
 ghost use Rattle.model.specs.Refusals.{told};
-ghost use Rattle.model.specs.WalkCalls.{cleared, pair-checks, check-eq-call};
+ghost use Rattle.model.specs.WalkCalls.{cleared, pair-checks, path-checks, check-eq-call, path-call, told-path};
 ghost use Rattle.model.specs.PathLaws.{Walk-laws};
 ghost use Rattle.egraph.specs.View.{given-list, size};
 ghost use Rattle.egraph.specs.SimplePath.{first-part, second-part, Found-path};
@@ -17,6 +17,7 @@ use frames::rule::FrameRule;
 use model::error::Fault;
 use model::error::asked;
 use model::items::Pair;
+use model::items::Step;
 
 // How long the two walks of a pair are, which stand one behind the other in the scratch, and how long their common tail is.
 #[derive(Drop)]
@@ -76,5 +77,45 @@ impl<'a, R: FrameRule> EGraph<'a, R> {
         let pair = Pair { from, to };
         asked(pair, self.check_pair(pair, marks.len(), walks.len()))?;
         Ok(self.get_simple_path(pair, marks, walks).is_some())
+    }
+
+    // Writes the steps of a path over the walks that it was found on, and answers how many there are.
+    fn write_steps(&self, found: SimplePath, pair: Pair, walks: &[u32], steps: &mut [Step]) -> usize
+        requires from { ⌜ pair .from < size (now self .records) ⌝ }
+        requires to { ⌜ pair .to < size (now self .records) ⌝ }
+        requires found { ⌜ Found-path (links (R·FrameRule .means (now self .rule) .counts) (given-list (now self .records))) (size (now self .records)) pair (now walks) found ⌝ }
+        requires places { ⌜ size (now self .records) ≤ length (now steps) ⌝ }
+        ensures { λ r. ⌜ (Some r, now (steps .exit)) ≡ told-path (path (links (R·FrameRule .means (now (self .entry) .rule) .counts) (given-list (now (self .entry) .records))) (size (now (self .entry) .records)) (pair .from) (pair .to)) (now (steps .entry)) ⌝ }
+    {
+        let SimplePath { from_to_root, to_to_root, shared } = found;
+        let rising = from_to_root - shared;
+        let falling = to_to_root - shared;
+        self.rise(&walks[0..rising], steps, 0);
+        self.fall(&walks[from_to_root..from_to_root + falling], steps, rising);
+        rising + falling
+    }
+
+    fn check_path(&self, pair: Pair, marks: usize, walks: usize, steps: usize) -> Result<(), Fault>
+        ensures { λ r. ⌜ told r ≡ path-checks (size (now (self .entry) .records)) pair marks walks steps ⌝ }
+    {
+        let size = self.records.enodes.len;
+        check_length(size, marks)?;
+        check_length(2 * size, walks)?;
+        check_length(size, steps)?;
+        self.check_enode(pair.from)?;
+        self.check_enode(pair.to)
+    }
+
+    // How many steps the path of a pair has, which are written into `steps`; none where there is no path. `marks` and `walks` are scratch.
+    pub fn path(&self, from: u32, to: u32, marks: &mut [u8], walks: &mut [u32], steps: &mut [Step]) -> Result<Option<usize>, Fault>
+        ensures outcome { λ r. ⌜ (told r, (now (marks .exit), now (steps .exit))) ≡ path-call (links (R·FrameRule .means (now (self .entry) .rule) .counts) (given-list (now (self .entry) .records))) (size (now (self .entry) .records)) (record { from = from; to = to }) (now (marks .entry)) (length (now (walks .entry))) (now (steps .entry)) ⌝ }
+        ensures laws { λ _. ⌜ Walk-laws (R·FrameRule .means (now (self .entry) .rule) .counts) (given-list (now (self .entry) .records)) (size (now (self .entry) .records)) ⌝ }
+    {
+        let pair = Pair { from, to };
+        asked(pair, self.check_path(pair, marks.len(), walks.len(), steps.len()))?;
+        let Some(found) = self.get_simple_path(pair, marks, walks) else {
+            return Ok(None);
+        };
+        Ok(Some(self.write_steps(found, pair, walks, steps)))
     }
 }
