@@ -1,0 +1,6 @@
+// The lines that a listing of a log is made of, each appended to a text.
+mod append;
+pub mod log;
+pub mod question;
+#[cfg(test)]
+mod tests;
