@@ -3,8 +3,11 @@ ghost use mathlib.Core.Path.{_≡_};
 ghost use mathlib.Core.List.{_++_};
 ghost use Rattle.std.specs.Of.String.{string-bytes};
 ghost use Rattle.std.specs.Vec.{made};
-ghost use Rattle.lines.specs.Text.{ask-text, same-text, walk-text, path-text, sign-text, no-path-text};
+ghost use Rattle.lines.specs.Text.{ask-text, same-text, walk-text, path-text, no-path-text};
 use crate::append::append;
+use crate::parts::enode_parts;
+use crate::parts::step_parts;
+use crate::parts::tells_part;
 use model::items::Step;
 use std::alloc::AllocError;
 
@@ -27,20 +30,9 @@ pub fn walk_line(out: &mut String, enodes: &[u32], tells: Option<u32>) -> Result
     ensures { λ r. ⌜ made r (λ _. string-bytes (now (out .exit)) ≡ string-bytes (now (out .entry)) ++ walk-text (now (enodes .entry)) tells) ⌝ }
 {
     out.push_str("walk")?;
-    for enode in enodes {
-        append(out, format_args!(" {enode}"))?;
-    }
-    if let Some(told) = tells {
-        append(out, format_args!(" tells {told}"))?;
-    }
+    enode_parts(out, enodes)?;
+    tells_part(out, tells)?;
     out.push_str("\n")
-}
-
-// How a path shows a step's direction.
-fn sign(forward: bool) -> &'static str
-    ensures { λ r. ⌜ now r ≡ sign-text forward ⌝ }
-{
-    if forward { "+" } else { "-" }
 }
 
 // The steps of a path in order, each with its direction and its given.
@@ -48,15 +40,11 @@ pub fn path_line(out: &mut String, steps: &[Step]) -> Result<(), AllocError>
     ensures { λ r. ⌜ made r (λ _. string-bytes (now (out .exit)) ≡ string-bytes (now (out .entry)) ++ path-text (now (steps .entry))) ⌝ }
 {
     out.push_str("path")?;
-    for step in steps {
-        let sign = sign(step.forward);
-        let given = step.given;
-        append(out, format_args!(" {sign}g{given}"))?;
-    }
+    step_parts(out, steps)?;
     out.push_str("\n")
 }
 
-// The answer where the two walks do not meet.
+// The answer where no path joins the two.
 pub fn no_path_line(out: &mut String) -> Result<(), AllocError>
     ensures { λ r. ⌜ made r (λ _. string-bytes (now (out .exit)) ≡ string-bytes (now (out .entry)) ++ no-path-text) ⌝ }
 {

@@ -5,7 +5,7 @@ use lib.ListN.{take}
 use Rattle.std.specs.Joined.{joined}
 use Rattle.std.specs.Of.String.{string-bytes}
 use Rattle.lines.specs.Text.{enode-text}
-use Rattle.lines.proofs.question.walk_line.Given as given
+use Rattle.lines.proofs.parts.enode_parts.Given as given
 
 abbrev pub Inv-loop-enode : given.InvT-loop-enode
 Inv-loop-enode l = string-bytes (l .out) ≡ string-bytes (l .entry .out) ++ joined enode-text (take (l .enode-index) (l .enodes))
