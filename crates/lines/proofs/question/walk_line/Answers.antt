@@ -1,0 +1,7 @@
+-- The parts of the line are written one behind the other.
+use borrow.Author.Needs.{needs}
+use mathlib.Core.List.{append-assoc}
+use Rattle.lines.proofs.question.walk_line.Needs as need
+
+pub returns : need.returns
+returns c = search (needs, append-assoc)
