@@ -1,1 +1,5 @@
 pub mod Fronts
+pub mod PairWords
+pub mod Heads
+pub mod Accepted
+pub mod Completeness

@@ -1,7 +1,7 @@
 // Reads the calls of a log.
 ghost use mathlib.Core.Path.{_≡_};
 ghost use Rattle.wordlog.specs.Calls.{front-as, given-as};
-ghost use Rattle.wordlog.specs.Reading.{all-plain, given-from, root-from, axiom-from, number-from, congruence-from, given-front, ask-front, front};
+ghost use Rattle.wordlog.specs.Reading.{all-plain, given-from, root-from, axiom-from, number-from, congruence-from, given-front, ask-front, front-of, front, Accepts, Complete};
 use crate::call::Call;
 use crate::call::TransEqAllowed;
 use model::items::ArgPairs;
@@ -77,14 +77,11 @@ fn read_given<'a>(kind: u32, count: usize, rest: &'a [u32]) -> Option<(Call<'a>,
     Some((Call::Given { expl }, count + 1))
 }
 
-pub fn read_call<'a>(words: &'a [u32]) -> Option<(Call<'a>, usize)>
-    ensures { λ r. ⌜ front-as r ≡ front (now (words .entry)) ⌝ }
+// The call whose head has that kind and payload, and these words behind it.
+fn read_kind<'a>(kind: u32, payload: u32, rest: &'a [u32]) -> Option<(Call<'a>, usize)>
+    ensures { λ r. ⌜ front-as r ≡ front-of kind payload (now (rest .entry)) ⌝ }
 {
-    let [head, rest @ ..] = words else {
-        return None;
-    };
-    let payload = *head % PLAIN;
-    match *head / PLAIN {
+    match kind {
         1 => Some((Call::Enode { owner: payload }, 1)),
         2 => read_given(payload / COUNT, (payload % COUNT) as usize, rest),
         3 if payload == 0 => Some((Call::Open, 1)),
@@ -92,4 +89,16 @@ pub fn read_call<'a>(words: &'a [u32]) -> Option<(Call<'a>, usize)>
         5 => read_ask(payload, rest),
         _ => None,
     }
+}
+
+// The call at the front of the words and how many of them it takes. None: no call that a log can hold is written there.
+pub fn read_call<'a>(words: &'a [u32]) -> Option<(Call<'a>, usize)>
+    ensures is { λ r. ⌜ front-as r ≡ front (now (words .entry)) ⌝ }
+    ensures accepts { λ r. ⌜ Accepts (now (words .entry)) (front-as r) ⌝ }
+    ensures complete { λ r. ⌜ Complete (now (words .entry)) (front-as r) ⌝ }
+{
+    let [head, rest @ ..] = words else {
+        return None;
+    };
+    read_kind(*head / PLAIN, *head % PLAIN, rest)
 }
