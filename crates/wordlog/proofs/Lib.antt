@@ -3,3 +3,4 @@ pub mod PairWords
 pub mod Heads
 pub mod Accepted
 pub mod Completeness
+pub mod Places

@@ -1,9 +1,16 @@
 // Reads the calls of a log.
 ghost use mathlib.Core.Path.{_≡_};
+ghost use denote.Ref.{now};
+ghost use Prim.Native.Nat.{_≤_};
+ghost use lib.ListN.{length};
+ghost use Rattle.model.specs.Refusals.{refusal-of, unreadable as unreadable-at};
+ghost use Rattle.wordlog.specs.Log.{next, next-as, words-read, ragged-read};
 ghost use Rattle.wordlog.specs.Calls.{front-as, given-as};
 ghost use Rattle.wordlog.specs.Reading.{all-plain, given-from, root-from, axiom-from, number-from, congruence-from, given-front, ask-front, front-of, front, Accepts, Complete};
 use crate::call::Call;
 use crate::call::TransEqAllowed;
+use model::error::Cause;
+use model::error::Fault;
 use model::items::ArgPairs;
 use model::items::EqualityExpl;
 
@@ -101,4 +108,62 @@ pub fn read_call<'a>(words: &'a [u32]) -> Option<(Call<'a>, usize)>
         return None;
     };
     read_kind(*head / PLAIN, *head % PLAIN, rest)
+}
+
+// As many words of a log are read.
+const LIMIT: usize = 16_384;
+
+// Reads a log call by call. `ragged`: one to three bytes are left over behind its words.
+#[derive(Drop)]
+pub struct Reader<'a> {
+    words: &'a [u32],
+    at: usize,
+    ragged: bool,
+    ghost short: { length (now words) ≤ 16384 },
+    ghost within: { at ≤ length (now words) },
+}
+
+fn unreadable(place: u32) -> Fault
+    ensures { λ r. ⌜ refusal-of r ≡ unreadable-at place ⌝ }
+{
+    Fault { cause: Cause::Unreadable(place), pair: None, level: 0, argument: None }
+}
+
+impl<'a> Reader<'a> {
+    pub fn new(words: &'a [u32], ragged: bool) -> Reader<'a>
+        ensures words { λ r. ⌜ now (r .words) ≡ words-read (now (words .entry)) ⌝ }
+        ensures ragged { λ r. ⌜ r .ragged ≡ ragged-read (now (words .entry)) ragged ⌝ }
+        ensures at { λ r. ⌜ r .at ≡ 0 ⌝ }
+    {
+        if words.len() < LIMIT {
+            return Reader { words, at: 0, ragged };
+        }
+        Reader { words: &words[0..LIMIT], at: 0, ragged: false }
+    }
+
+    // The place of the next word.
+    pub fn place(&self) -> u32
+        ensures { λ r. ⌜ r ≡ now (self .entry) .at ⌝ }
+    {
+        self.at as u32
+    }
+
+    // The next call; None at the end of the log. A fault leaves the reader as it is.
+    pub fn next_call(&mut self) -> Result<Option<Call<'a>>, Fault>
+        ensures outcome { λ r. ⌜ (next-as r, now (self .exit) .at) ≡ next (now (now (self .entry) .words)) (now (self .entry) .ragged) (now (self .entry) .at) ⌝ }
+        ensures words { λ _. ⌜ now (now (self .exit) .words) ≡ now (now (self .entry) .words) ⌝ }
+        ensures ragged { λ _. ⌜ now (self .exit) .ragged ≡ now (self .entry) .ragged ⌝ }
+    {
+        if self.at == self.words.len() {
+            if self.ragged {
+                return Err(unreadable(self.place()));
+            }
+            return Ok(None);
+        }
+        let Some((call, taken)) = read_call(&self.words[self.at..]) else {
+            return Err(unreadable(self.place()));
+        };
+        self.at += taken;
+        Ok(Some(call))
+    }
 }
