@@ -16,7 +16,8 @@ use Rattle.model.specs.Records.{Kind, Literal, Theory, Unknown}
 use Rattle.model.specs.Format.{Call, enode, given, open-frame, close-frame, pair-words, head, given-head, words, Plain, All-plain, Allowed}
 use Rattle.wordlog.specs.Calls.{pairs-of}
 use Rattle.wordlog.specs.Reading.{Front, plain, some-if, all-plain, root-from, axiom-from, number-from, congruence-from, given-from, taking, given-front, ask-front, front-of, front, Accepts}
-use Rattle.wordlog.proofs.PairWords.{pair-words-length, words-of-pairs, plain-fact}
+use Rattle.wordlog.proofs.Plain.{plain-fact}
+use Rattle.wordlog.proofs.PairWords.{pair-words-length, words-of-pairs}
 
 -- a choice by a kind's number
 by-kind : (kind n : ℕ) {A : Type 0} (P : ℕ → A → Type 0) (x y : A) → P n x → P kind y → P kind (cond (eqb kind n) x y)

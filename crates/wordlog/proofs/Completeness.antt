@@ -14,7 +14,8 @@ use Rattle.model.specs.Records.{Kind, Root, Axiom, Literal, Theory, Unknown, Co
 use Rattle.model.specs.Format.{Call, enode, given, open-frame, close-frame, ask, pair-words, given-head, words, Plain, All-plain, Allowed, Given-allowed}
 use Rattle.wordlog.specs.Calls.{pairs-of}
 use Rattle.wordlog.specs.Reading.{all-plain, given-from, given-front, front, Complete}
-use Rattle.wordlog.proofs.PairWords.{pair-words-length, pairs-of-words, plain-test}
+use Rattle.wordlog.proofs.Plain.{plain-test}
+use Rattle.wordlog.proofs.PairWords.{pair-words-length, pairs-of-words}
 use Rattle.wordlog.proofs.Heads.{front-at, given-at}
 use Rattle.wordlog.proofs.Fronts.{given-reads}
 

@@ -1,15 +1,12 @@
--- Argument pairs and their words, and plain words by test and by fact.
+-- Argument pairs and their words.
 use Prim.Native.Nat.{ℕ, _*_, _%_}
 use mathlib.Core.Path.{_≡_, refl, ap}
-use mathlib.Core.Bool.{true}
 use mathlib.Core.List.{List, [], _∷_}
 use native.Mathlib.Omega.{arith}
 use lib.ListN.{length}
-use Rattle.std.proofs.shelf.Tests.{ltb-true, lt-ltb, and-parts, and-from}
 use Rattle.model.specs.declared.items.Pair.{Pair}
-use Rattle.model.specs.Format.{pair-words, All-plain}
+use Rattle.model.specs.Format.{pair-words}
 use Rattle.wordlog.specs.Calls.{pairs-of}
-use Rattle.wordlog.specs.Reading.{all-plain}
 
 pub pair-words-length : (ps : List Pair) → length (pair-words ps) ≡ 2 * length ps
 pair-words-length [] = refl
@@ -23,11 +20,3 @@ pub words-of-pairs : (ws : List ℕ) → length ws % 2 ≡ 0 → pair-words (pai
 words-of-pairs [] e = refl
 words-of-pairs (a ∷ []) e = absurd (omega arith)
 words-of-pairs (a ∷ b ∷ ws) e = ap (λ us. a ∷ b ∷ us) (words-of-pairs ws (omega arith))
-
-pub plain-fact : (ws : List ℕ) → all-plain ws ≡ true → All-plain ws
-plain-fact [] e = tt
-plain-fact (w ∷ ws) e = let both = and-parts _ _ e in (ltb-true w _ (both .0), plain-fact ws (both .1))
-
-pub plain-test : (ws : List ℕ) → All-plain ws → all-plain ws ≡ true
-plain-test [] p = refl
-plain-test (w ∷ ws) p = and-from _ _ (lt-ltb w _ (p .0)) (plain-test ws (p .1))

@@ -1,3 +1,4 @@
 pub mod Calls
 pub mod Reading
 pub mod Log
+pub mod Writing

@@ -1,2 +1,6 @@
+// Word logs: the calls of a case as words of 32 bits, read and written.
 pub mod call;
 pub mod reader;
+mod shapes;
+mod word;
+pub mod writer;

@@ -1,102 +1,17 @@
 // Reads the calls of a log.
-ghost use mathlib.Core.Path.{_≡_};
 ghost use denote.Ref.{now};
+ghost use mathlib.Core.Path.{_≡_};
 ghost use Prim.Native.Nat.{_≤_};
 ghost use lib.ListN.{length};
 ghost use Rattle.model.specs.Refusals.{refusal-of, unreadable as unreadable-at};
+ghost use Rattle.wordlog.specs.Calls.{front-as};
+ghost use Rattle.wordlog.specs.Reading.{front, Accepts, Complete};
 ghost use Rattle.wordlog.specs.Log.{next, next-as, words-read, ragged-read};
-ghost use Rattle.wordlog.specs.Calls.{front-as, given-as};
-ghost use Rattle.wordlog.specs.Reading.{all-plain, given-from, root-from, axiom-from, number-from, congruence-from, given-front, ask-front, front-of, front, Accepts, Complete};
 use crate::call::Call;
-use crate::call::TransEqAllowed;
+use crate::shapes::read_kind;
+use crate::word::PAYLOADS;
 use model::error::Cause;
 use model::error::Fault;
-use model::items::ArgPairs;
-use model::items::EqualityExpl;
-
-// A plain word has 0 in its top four bits.
-const PLAIN: u32 = 0x1000_0000;
-
-// A given's number of words is in its low 24 bits.
-const COUNT: u32 = 0x100_0000;
-
-fn all_plain(words: &[u32]) -> bool
-    ensures { λ r. ⌜ r ≡ all-plain (now (words .entry)) ⌝ }
-{
-    for word in words {
-        if *word >= PLAIN {
-            return false;
-        }
-    }
-    true
-}
-
-fn congruence<'a>(words: &'a [u32]) -> Option<EqualityExpl<'a>>
-    ensures { λ r. ⌜ given-as r ≡ congruence-from (now (words .entry)) ⌝ }
-{
-    let [from, to, arguments @ ..] = words else {
-        return None;
-    };
-    if arguments.is_empty() || arguments.len() % 2 != 0 {
-        return None;
-    }
-    Some(EqualityExpl::Congruence { from: *from, arg_eqs: ArgPairs { words: arguments }, to: *to })
-}
-
-fn given_of<'a>(kind: u32, words: &'a [u32]) -> Option<EqualityExpl<'a>>
-    ensures { λ r. ⌜ given-as r ≡ given-from kind (now (words .entry)) ⌝ }
-{
-    match (kind, words) {
-        (0, [id]) => Some(EqualityExpl::Root { id: *id }),
-        (1, [from, to, eq]) => Some(EqualityExpl::Literal { from: *from, eq: *eq, to: *to }),
-        (2, _) => congruence(words),
-        (3, [from, to, theory]) => Some(EqualityExpl::Theory { from: *from, theory: *theory, to: *to }),
-        (4, [from, to]) => Some(EqualityExpl::Axiom { from: *from, to: *to }),
-        (5, [from, to, kind]) => Some(EqualityExpl::Unknown { kind: *kind, from: *from, to: *to }),
-        _ => None,
-    }
-}
-
-fn read_ask<'a>(payload: u32, rest: &'a [u32]) -> Option<(Call<'a>, usize)>
-    ensures { λ r. ⌜ front-as r ≡ ask-front payload (now (rest .entry)) ⌝ }
-{
-    let [from, to, ..] = rest else {
-        return None;
-    };
-    if payload >= 4 || *from >= PLAIN || *to >= PLAIN {
-        return None;
-    }
-    let allowed = TransEqAllowed { can_mismatch_initial: payload % 2 == 1, can_mismatch_congr: payload / 2 == 1 };
-    Some((Call::Ask { allowed, from: *from, to: *to }, 3))
-}
-
-fn read_given<'a>(kind: u32, count: usize, rest: &'a [u32]) -> Option<(Call<'a>, usize)>
-    ensures { λ r. ⌜ front-as r ≡ given-front kind count (now (rest .entry)) ⌝ }
-{
-    if count > rest.len() {
-        return None;
-    }
-    let words = &rest[0..count];
-    if !all_plain(words) {
-        return None;
-    }
-    let expl = given_of(kind, words)?;
-    Some((Call::Given { expl }, count + 1))
-}
-
-// The call whose head has that kind and payload, and these words behind it.
-fn read_kind<'a>(kind: u32, payload: u32, rest: &'a [u32]) -> Option<(Call<'a>, usize)>
-    ensures { λ r. ⌜ front-as r ≡ front-of kind payload (now (rest .entry)) ⌝ }
-{
-    match kind {
-        1 => Some((Call::Enode { owner: payload }, 1)),
-        2 => read_given(payload / COUNT, (payload % COUNT) as usize, rest),
-        3 if payload == 0 => Some((Call::Open, 1)),
-        4 if payload == 0 => Some((Call::Close, 1)),
-        5 => read_ask(payload, rest),
-        _ => None,
-    }
-}
 
 // The call at the front of the words and how many of them it takes. None: no call that a log can hold is written there.
 pub fn read_call<'a>(words: &'a [u32]) -> Option<(Call<'a>, usize)>
@@ -107,7 +22,7 @@ pub fn read_call<'a>(words: &'a [u32]) -> Option<(Call<'a>, usize)>
     let [head, rest @ ..] = words else {
         return None;
     };
-    read_kind(*head / PLAIN, *head % PLAIN, rest)
+    read_kind(*head / PAYLOADS, *head % PAYLOADS, rest)
 }
 
 // As many words of a log are read.

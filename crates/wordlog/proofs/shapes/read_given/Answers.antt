@@ -5,7 +5,7 @@ use native.Mathlib.Nat.{sub-zero}
 use Rattle.std.proofs.shelf.Ways.{tells}
 use Rattle.wordlog.specs.Calls.{front-as}
 use Rattle.wordlog.proofs.Fronts.{given-reads}
-use Rattle.wordlog.proofs.reader.read_given.Needs as need
+use Rattle.wordlog.proofs.shapes.read_given.Needs as need
 
 pub returns-then-count-rest : need.returns-then-count-rest
 returns-then-count-rest c = grind (arith, tells)

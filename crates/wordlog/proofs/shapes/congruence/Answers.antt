@@ -6,7 +6,7 @@ use lib.ListN.{length}
 use Rattle.std.proofs.shelf.Lists.{take-rest, length-drop}
 use Rattle.std.proofs.shelf.Ways.{tells}
 use Rattle.wordlog.proofs.Fronts.{congruence-reads}
-use Rattle.wordlog.proofs.reader.congruence.Needs as need
+use Rattle.wordlog.proofs.shapes.congruence.Needs as need
 
 pub returns : need.returns
 returns c =

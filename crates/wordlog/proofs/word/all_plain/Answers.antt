@@ -3,10 +3,10 @@ use native.Mathlib.Omega.{arith}
 use Rattle.std.proofs.shelf.Lists.{at-drop-more, at-drop-all}
 use Rattle.std.proofs.shelf.Ways.{tells}
 use Rattle.wordlog.specs.Reading.{all-plain}
-use Rattle.wordlog.proofs.reader.all_plain.Needs as need
+use Rattle.wordlog.proofs.word.all_plain.Needs as need
 
-pub returns-then-word-ge-PLAIN : need.returns-then-word-ge-PLAIN
-returns-then-word-ge-PLAIN c =
+pub returns-then-word-ge-PAYLOADS : need.returns-then-word-ge-PAYLOADS
+returns-then-word-ge-PAYLOADS c =
     let step = at-drop-more all-plain (c .args .words .now) (c .loop-word .word-index) 0 (omega arith) in
     grind (arith, tells)
 

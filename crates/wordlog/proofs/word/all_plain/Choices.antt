@@ -2,7 +2,7 @@
 use mathlib.Core.Path.{_≡_}
 use lib.ListN.{drop}
 use Rattle.wordlog.specs.Reading.{all-plain}
-use Rattle.wordlog.proofs.reader.all_plain.Given as given
+use Rattle.wordlog.proofs.word.all_plain.Given as given
 
 abbrev pub Inv-loop-word : given.InvT-loop-word
 Inv-loop-word l = all-plain (drop (l .word-index) (l .words)) ≡ all-plain (l .words)
