@@ -28,10 +28,13 @@ flag b = cond b 1 0
 abbrev pub permission : TransEqAllowed → ℕ
 permission p = flag (p .«can_mismatch_initial») + 2 * flag (p .«can_mismatch_congr»)
 
+abbrev pub congruence : ℕ → ℕ → List ℕ → Call
+congruence a b ws = given a b (records.Congruence (pairs-of ws))
+
 abbrev pub given-of : EqualityExpl → Call
 given-of (expl.Root e) = given e e records.Root
 given-of (expl.Literal a n b) = given a b (records.Literal n)
-given-of (expl.Congruence a ps b) = given a b (records.Congruence (pairs-of (now (ps .words))))
+given-of (expl.Congruence a ps b) = congruence a b (now (ps .words))
 given-of (expl.Theory a n b) = given a b (records.Theory n)
 given-of (expl.Axiom a b) = given a b records.Axiom
 given-of (expl.Unknown n a b) = given a b (records.Unknown n)

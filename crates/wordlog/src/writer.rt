@@ -1,10 +1,12 @@
 // Writes the calls of a log.
 ghost use mathlib.Core.Path.{_≡_};
 ghost use mathlib.Core.List.{_∷_, _++_};
-ghost use Rattle.model.specs.Format.{All-plain};
-ghost use Rattle.wordlog.specs.Calls.{call-of};
+ghost use Prim.Native.Nat.{_<_, _^_};
+ghost use Rattle.model.specs.Format.{All-plain, given-head};
+ghost use Rattle.wordlog.specs.Calls.{call-of, given-of, congruence, permission as permission-of};
 ghost use Rattle.wordlog.specs.Writing.{Puts, Writes};
 use crate::call::Call;
+use crate::call::TransEqAllowed;
 use crate::word::COUNTS;
 use crate::word::PAYLOADS;
 use crate::word::all_plain;
@@ -24,4 +26,58 @@ fn write_record(head: u32, first: &[u32], second: &[u32], out: &mut [u32]) -> Op
     out[1..middle].copy_from_slice(first);
     out[middle..end].copy_from_slice(second);
     Some(end)
+}
+
+fn given_head(kind: u32, count: u32) -> u32
+    requires { ⌜ kind < 16 ⌝ ∗ ⌜ count < 2 ^ 24 ⌝ }
+    ensures { λ r. ⌜ r ≡ given-head kind count ⌝ }
+{
+    2 * PAYLOADS + kind * COUNTS + count
+}
+
+fn permission(allowed: TransEqAllowed) -> u32
+    ensures { λ r. ⌜ r ≡ permission-of allowed ⌝ }
+{
+    u32::from(allowed.can_mismatch_initial) + 2 * u32::from(allowed.can_mismatch_congr)
+}
+
+fn write_congruence(from: u32, to: u32, arguments: ArgPairs<'_>, out: &mut [u32]) -> Option<usize>
+    ensures { λ r. ⌜ Writes (congruence from to (now (arguments .entry .words))) (now (out .entry)) r (now (out .exit)) ⌝ }
+{
+    let count = arguments.words.len() / 2 * 2;
+    if count == 0 || count >= (COUNTS - 2) as usize {
+        return None;
+    }
+    write_record(given_head(2, 2 + count as u32), &[from, to], &arguments.words[0..count], out)
+}
+
+fn write_given(expl: &EqualityExpl<'_>, out: &mut [u32]) -> Option<usize>
+    ensures { λ r. ⌜ Writes (given-of (now (expl .entry))) (now (out .entry)) r (now (out .exit)) ⌝ }
+{
+    match *expl {
+        EqualityExpl::Root { id } => write_record(given_head(0, 1), &[id], &[], out),
+        EqualityExpl::Literal { from, eq, to } => write_record(given_head(1, 3), &[from, to, eq], &[], out),
+        EqualityExpl::Congruence { from, arg_eqs, to } => write_congruence(from, to, arg_eqs, out),
+        EqualityExpl::Theory { from, theory, to } => write_record(given_head(3, 3), &[from, to, theory], &[], out),
+        EqualityExpl::Axiom { from, to } => write_record(given_head(4, 2), &[from, to], &[], out),
+        EqualityExpl::Unknown { kind, from, to } => write_record(given_head(5, 3), &[from, to, kind], &[], out),
+    }
+}
+
+// Writes a call's words at the front of `out`, and answers how many. None, with nothing written: no log can hold the call, or `out` is too short.
+pub fn write_call(call: &Call<'_>, out: &mut [u32]) -> Option<usize>
+    ensures { λ r. ⌜ Writes (call-of (now (call .entry))) (now (out .entry)) r (now (out .exit)) ⌝ }
+{
+    match *call {
+        Call::Enode { owner } => {
+            if owner >= PAYLOADS {
+                return None;
+            }
+            write_record(PAYLOADS + owner, &[], &[], out)
+        }
+        Call::Given { expl } => write_given(&expl, out),
+        Call::Open => write_record(3 * PAYLOADS, &[], &[], out),
+        Call::Close => write_record(4 * PAYLOADS, &[], &[], out),
+        Call::Ask { allowed, from, to } => write_record(5 * PAYLOADS + permission(allowed), &[from, to], &[], out),
+    }
 }
