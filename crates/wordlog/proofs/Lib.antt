@@ -6,3 +6,4 @@ pub mod Accepted
 pub mod Completeness
 pub mod Places
 pub mod Records
+pub mod Words

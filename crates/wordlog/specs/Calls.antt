@@ -51,6 +51,10 @@ abbrev pub front-as : Option (CodeCall × ℕ) → Option (Call × ℕ)
 front-as None = None
 front-as (Some p) = Some (call-of (p .0), p .1)
 
+abbrev pub call-as : Option CodeCall → Option Call
+call-as None = None
+call-as (Some c) = Some (call-of c)
+
 abbrev pub given-as : Option EqualityExpl → Option Call
 given-as None = None
 given-as (Some e) = Some (given-of e)

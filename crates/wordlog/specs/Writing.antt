@@ -15,3 +15,8 @@ Puts P ws before None after = (after ≡ before) × (P → length before < lengt
 -- an allowed call is written by its words
 abbrev pub Writes : Call → List ℕ → Option ℕ → List ℕ → Type 0
 Writes c before r after = Puts (Allowed c) (words c) before r after
+
+-- what is read back is the call, unless nothing was written
+abbrev pub Reads-back : Call → ℕ → Option Call → Type 0
+Reads-back c places (Some back) = Allowed c × (length (words c) ≤ places) × (back ≡ c)
+Reads-back c places None = Allowed c → places < length (words c)

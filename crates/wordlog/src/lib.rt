@@ -1,4 +1,5 @@
 // Word logs: the calls of a case as words of 32 bits, read and written.
+pub mod bytes;
 pub mod call;
 pub mod reader;
 mod shapes;

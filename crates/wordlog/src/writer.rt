@@ -2,11 +2,13 @@
 ghost use mathlib.Core.Path.{_≡_};
 ghost use mathlib.Core.List.{_∷_, _++_};
 ghost use Prim.Native.Nat.{_<_, _^_};
+ghost use lib.ListN.{length};
 ghost use Rattle.model.specs.Format.{All-plain, given-head};
-ghost use Rattle.wordlog.specs.Calls.{call-of, given-of, congruence, permission as permission-of};
-ghost use Rattle.wordlog.specs.Writing.{Puts, Writes};
+ghost use Rattle.wordlog.specs.Calls.{call-of, call-as, given-of, congruence, permission as permission-of};
+ghost use Rattle.wordlog.specs.Writing.{Puts, Writes, Reads-back};
 use crate::call::Call;
 use crate::call::TransEqAllowed;
+use crate::reader::read_call;
 use crate::word::COUNTS;
 use crate::word::PAYLOADS;
 use crate::word::all_plain;
@@ -80,4 +82,13 @@ pub fn write_call(call: &Call<'_>, out: &mut [u32]) -> Option<usize>
         Call::Close => write_record(4 * PAYLOADS, &[], &[], out),
         Call::Ask { allowed, from, to } => write_record(5 * PAYLOADS + permission(allowed), &[from, to], &[], out),
     }
+}
+
+// Writes a call and reads it back from the same words: the call that was written.
+pub fn written_reads_back<'a>(call: &Call<'_>, out: &'a mut [u32]) -> Option<Call<'a>>
+    ensures { λ r. ⌜ Reads-back (call-of (now (call .entry))) (length (now (out .entry))) (call-as r) ⌝ }
+{
+    write_call(call, out)?;
+    let (back, _) = read_call(out)?;
+    Some(back)
 }
