@@ -3,5 +3,7 @@ pub mod bytes;
 pub mod call;
 pub mod reader;
 mod shapes;
+#[cfg(test)]
+mod tests;
 mod word;
 pub mod writer;
