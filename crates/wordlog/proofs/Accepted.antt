@@ -53,13 +53,13 @@ congruence-stands (a ∷ []) l p = tt
 congruence-stands (a ∷ b ∷ us) l p =
     cond-both (ltb 0 (length us) && eqb (length us % 2) 0) _ None (Stands 2 (a ∷ b ∷ us))
     (λ e.
-      let both = and-parts _ _ e in
-      let w = words-of-pairs us (eqb-true (length us % 2) 0 (both .1)) in
-      let n = pair-words-length (pairs-of us) in
-      let some = ltb-true 0 (length us) (both .0) in
-      let count = ap length w in
-      let head : suc (suc (length us)) ≡ 2 + length (pair-words (pairs-of us)) = omega arith in
-      ((p .0, p .1 .0, subst All-plain (sym w) (p .1 .1), omega arith, omega arith), cc))
+    let both = and-parts _ _ e in
+    let w = words-of-pairs us (eqb-true (length us % 2) 0 (both .1)) in
+    let n = pair-words-length (pairs-of us) in
+    let some = ltb-true 0 (length us) (both .0) in
+    let count = ap length w in
+    let head : suc (suc (length us)) ≡ 2 + length (pair-words (pairs-of us)) = omega arith in
+    ((p .0, p .1 .0, subst All-plain (sym w) (p .1 .1), omega arith, omega arith), cc))
     (λ e. tt)
 
 given-stands : (kind : ℕ) (us : List ℕ) → length us < 2 ^ 24 → All-plain us → Stands kind us (given-from kind us)
@@ -83,10 +83,10 @@ given-accepted : (kind count w : ℕ) (ws : List ℕ) → w ≡ given-head kind 
 given-accepted kind count w ws h l =
     cond-both (leb count (length ws) && all-plain (take count ws)) _ None (Accepts (w ∷ ws))
     (λ e.
-      let both = and-parts _ _ e in
-      let fits = leb-true count (length ws) (both .0) in
-      let short : length (take count ws) < 2 ^ 24 = omega (arith, length-take-le count ws fits) in
-      taking-accepted kind count w ws _ h fits (given-stands kind (take count ws) short (plain-fact (take count ws) (both .1))))
+    let both = and-parts _ _ e in
+    let fits = leb-true count (length ws) (both .0) in
+    let short : length (take count ws) < 2 ^ 24 = omega (arith, length-take-le count ws fits) in
+    taking-accepted kind count w ws _ h fits (given-stands kind (take count ws) short (plain-fact (take count ws) (both .1))))
     (λ e. tt)
 
 ask-accepted : (may w : ℕ) (ws : List ℕ) → w ≡ head 5 may → Accepts (w ∷ ws) (ask-front may ws)
@@ -95,9 +95,9 @@ ask-accepted may w (a ∷ []) h = tt
 ask-accepted may w (a ∷ b ∷ ws) h =
     cond-both (ltb may 4 && (plain a && plain b)) _ None (Accepts (w ∷ a ∷ b ∷ ws))
     (λ e.
-      let both = and-parts _ _ e in
-      let ends = and-parts _ _ (both .1) in
-      ((ltb-true may 4 (both .0), ltb-true a _ (ends .0), ltb-true b _ (ends .1)), omega arith, cc))
+    let both = and-parts _ _ e in
+    let ends = and-parts _ _ (both .1) in
+    ((ltb-true may 4 (both .0), ltb-true a _ (ends .0), ltb-true b _ (ends .1)), omega arith, cc))
     (λ e. tt)
 
 bare-accepted : (kind payload w : ℕ) (ws : List ℕ) (c : Call) → w ≡ head kind payload → Allowed c → words c ≡ head kind 0 ∷ [] → Accepts (w ∷ ws) (some-if (eqb payload 0) (c, 1))

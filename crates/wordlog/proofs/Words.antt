@@ -44,15 +44,15 @@ words-in-at (a ∷ b ∷ c ∷ d ∷ bs) (suc i) l =
 pub nth-some : (xs : List ℕ) (i x : ℕ) → Some x ≡ nth xs i → (i < length xs) × (x ≡ getD xs i 0)
 nth-some xs i x e =
     elim (cases-lt i (length xs)) [
-      inl l ↦ (l, let g = nth-getD xs i 0 l in cc)
-    | inr l ↦ absurd (let p = nth-past xs i l in let z : _≡_ {A = ℕ} 0 1 = cc in omega arith)
+      | inl l ↦ (l, let g = nth-getD xs i 0 l in cc)
+      | inr l ↦ absurd (let p = nth-past xs i l in let z : _≡_ {A = ℕ} 0 1 = cc in omega arith)
     ]
 
 pub nth-none : (xs : List ℕ) (i : ℕ) → _≡_ {A = Option ℕ} None (nth xs i) → length xs ≤ i
 nth-none xs i e =
     elim (cases-lt i (length xs)) [
-      inl l ↦ absurd (let g = nth-getD xs i 0 l in let z : _≡_ {A = ℕ} 0 1 = cc in omega arith)
-    | inr l ↦ l
+      | inl l ↦ absurd (let g = nth-getD xs i 0 l in let z : _≡_ {A = ℕ} 0 1 = cc in omega arith)
+      | inr l ↦ l
     ]
 
 -- one word more

@@ -10,9 +10,17 @@ pub struct TransEqAllowed {
 
 #[derive(Clone, Copy)]
 pub enum Call<'a> {
-    Enode { owner: u32 },
-    Given { expl: EqualityExpl<'a> },
+    Enode {
+        owner: u32,
+    },
+    Given {
+        expl: EqualityExpl<'a>,
+    },
     Open,
     Close,
-    Ask { allowed: TransEqAllowed, from: u32, to: u32 },
+    Ask {
+        allowed: TransEqAllowed,
+        from: u32,
+        to: u32,
+    },
 }

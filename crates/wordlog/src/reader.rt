@@ -25,10 +25,10 @@ pub fn read_call<'a>(words: &'a [u32]) -> Option<(Call<'a>, usize)>
     read_kind(*head / PAYLOADS, *head % PAYLOADS, rest)
 }
 
-// As many words of a log are read.
+// No more words of a log are read.
 const LIMIT: usize = 16_384;
 
-// Reads a log call by call. `ragged`: one to three bytes are left over behind its words.
+// Reads a log call by call: its words, the place of the next one, and whether one to three bytes are left over behind them.
 #[derive(Drop)]
 pub struct Reader<'a> {
     words: &'a [u32],
@@ -41,19 +41,33 @@ pub struct Reader<'a> {
 fn unreadable(place: u32) -> Fault
     ensures { λ r. ⌜ refusal-of r ≡ unreadable-at place ⌝ }
 {
-    Fault { cause: Cause::Unreadable(place), pair: None, level: 0, argument: None }
+    Fault {
+        cause: Cause::Unreadable(place),
+        pair: None,
+        level: 0,
+        argument: None,
+    }
 }
 
 impl<'a> Reader<'a> {
+    // Keeps the words within the limit; what is left over behind the limit is not read.
     pub fn new(words: &'a [u32], ragged: bool) -> Reader<'a>
         ensures words { λ r. ⌜ now (r .words) ≡ words-read (now (words .entry)) ⌝ }
         ensures ragged { λ r. ⌜ r .ragged ≡ ragged-read (now (words .entry)) ragged ⌝ }
         ensures at { λ r. ⌜ r .at ≡ 0 ⌝ }
     {
         if words.len() < LIMIT {
-            return Reader { words, at: 0, ragged };
+            return Reader {
+                words,
+                at: 0,
+                ragged,
+            };
         }
-        Reader { words: &words[0..LIMIT], at: 0, ragged: false }
+        Reader {
+            words: &words[0..LIMIT],
+            at: 0,
+            ragged: false,
+        }
     }
 
     // The place of the next word.

@@ -2,7 +2,6 @@
 use crate::bytes::words_of;
 use crate::call::Call;
 use crate::reader::Reader;
-use crate::reader::read_call;
 use crate::writer::write_call;
 use model::error::Cause;
 use model::error::Fault;
@@ -16,7 +15,12 @@ fn refused_at(words: &[u32], ragged: bool) -> Option<u32> {
         match reader.next_call() {
             Ok(Some(_)) => {}
             Ok(None) => return None,
-            Err(Fault { cause: Cause::Unreadable(place), .. }) => return Some(place),
+            Err(
+                Fault {
+                    cause: Cause::Unreadable(place),
+                    ..
+                },
+            ) => return Some(place),
             Err(_) => return None,
         }
     }
@@ -43,10 +47,24 @@ fn bad_heads() -> Result<(), Fail> {
 
 #[test]
 fn bad_counts() -> Result<(), Fail> {
-    for head in [0x2000_0000, 0x2000_0002, 0x2100_0002, 0x2100_0004, 0x2200_0002, 0x2200_0003] {
+    for head in [
+        0x2000_0000,
+        0x2000_0002,
+        0x2100_0002,
+        0x2100_0004,
+        0x2200_0002,
+        0x2200_0003,
+    ] {
         bad(&[head, 0, 0, 0, 0, 0], 0)?;
     }
-    for head in [0x2200_0005, 0x2300_0002, 0x2300_0004, 0x2400_0001, 0x2400_0003, 0x2500_0004] {
+    for head in [
+        0x2200_0005,
+        0x2300_0002,
+        0x2300_0004,
+        0x2400_0001,
+        0x2400_0003,
+        0x2500_0004,
+    ] {
         bad(&[head, 0, 0, 0, 0, 0], 0)?;
     }
     bad(&[0x1000_0000, 0x2400_0002, 0], 1)?;
@@ -66,60 +84,94 @@ fn bad_words() -> Result<(), Fail> {
     check_eq(refused_at(&[0x3000_0000, 0x4000_0000], false), None)
 }
 
-// The words are one call, and that call is written as them.
+// Writes each call of a log at its own place, and answers where that ended.
+fn rewrite(words: &[u32], out: &mut [u32]) -> u32 {
+    let mut reader = Reader::new(words, false);
+    for _ in 0..words.len() {
+        let at = reader.place() as usize;
+        let Ok(Some(call)) = reader.next_call() else {
+            break;
+        };
+        if at > out.len() || write_call(&call, &mut out[at..]).is_none() {
+            break;
+        }
+    }
+    reader.place()
+}
+
+// The log is read to its end, and its calls are written as its words.
 fn good(words: &[u32]) -> Result<(), Fail> {
-    let Some((call, taken)) = read_call(words) else {
-        return Err(Fail::new("no call"));
-    };
-    check_eq(taken, words.len())?;
-    let mut out = [0xffff_ffff; 8];
-    check_eq(write_call(&call, &mut out), Some(taken))?;
-    check(taken <= 8)?;
-    check(&out[0..taken] == words)
+    let mut out = [0xffff_ffff; 16];
+    check(words.len() <= 16)?;
+    check_eq(rewrite(words, &mut out) as usize, words.len())?;
+    check(&out[0..words.len()] == words)
 }
 
 #[test]
-fn good_calls() -> Result<(), Fail> {
-    good(&[0x1fff_ffff])?;
-    good(&[0x2000_0001, 0x0fff_ffff])?;
-    good(&[0x2100_0003, 1, 2, 3])?;
-    good(&[0x2200_0004, 1, 2, 3, 4])?;
-    good(&[0x2200_0006, 1, 2, 3, 4, 5, 6])?;
-    good(&[0x2300_0003, 1, 2, 3])?;
-    good(&[0x2400_0002, 1, 2])?;
-    good(&[0x2500_0003, 1, 2, 3])?;
-    good(&[0x3000_0000])?;
-    good(&[0x4000_0000])?;
-    good(&[0x5000_0001, 1, 2])?;
-    good(&[0x5000_0002, 1, 2])
+fn each_kind() -> Result<(), Fail> {
+    good(&[0x1fff_ffff, 0x3000_0000, 0x2000_0001, 0x0fff_ffff])?;
+    good(&[0x2100_0003, 1, 2, 3, 0x2200_0004, 1, 2, 3, 4])?;
+    good(&[0x2200_0006, 1, 2, 3, 4, 5, 6, 0x4000_0000])?;
+    good(&[0x2300_0003, 1, 2, 3, 0x2400_0002, 1, 2])?;
+    good(&[0x2500_0003, 1, 2, 3, 0x5000_0001, 1, 2])?;
+    good(&[0x5000_0002, 1, 2, 0x5000_0003, 1, 2])
 }
 
 // Enodes 0 and 1, an axiom that they are equal, and the question whether they are.
-const LOG: [u8; 32] = [
-    0, 0, 0, 0x10, 1, 0, 0, 0x10, 2, 0, 0, 0x24, 0, 0, 0, 0, 1, 0, 0, 0, 0, 0, 0, 0x50, 0, 0, 0, 0, 1, 0, 0, 0,
-];
-
 #[test]
 fn small_log() -> Result<(), Fail> {
+    let first = b"\x00\x00\x00\x10\x01\x00\x00\x10\x02\x00\x00\x24\x00\x00\x00\x00";
+    let second = b"\x01\x00\x00\x00\x00\x00\x00\x50\x00\x00\x00\x00\x01\x00\x00\x00";
     let mut words = [0; 8];
-    check_eq(words_of(&LOG, &mut words), 8)?;
+    check_eq(words_of(first, &mut words), 4)?;
+    check_eq(words_of(second, &mut words[4..]), 4)?;
+    let expected = [
+        0x1000_0000,
+        0x1000_0001,
+        0x2400_0002,
+        0,
+        1,
+        0x5000_0000,
+        0,
+        1,
+    ];
+    check(words == expected)?;
+    good(&expected)
+}
+
+#[test]
+fn call_fields() -> Result<(), Fail> {
+    let words = [0x1000_0001, 0x2200_0004, 1, 2, 3, 4, 0x5000_0002, 3, 4];
     let mut reader = Reader::new(&words, false);
-    let Ok(Some(Call::Enode { owner: 0 })) = reader.next_call() else {
-        return Err(Fail::new("enode 0"));
-    };
     let Ok(Some(Call::Enode { owner: 1 })) = reader.next_call() else {
-        return Err(Fail::new("enode 1"));
+        return Err(Fail::new("enode"));
     };
-    let Ok(Some(Call::Given { expl: EqualityExpl::Axiom { from: 0, to: 1 } })) = reader.next_call() else {
-        return Err(Fail::new("axiom"));
+    let Ok(
+        Some(
+            Call::Given {
+                expl: EqualityExpl::Congruence {
+                    from: 1,
+                    arg_eqs,
+                    to: 2,
+                },
+            },
+        ),
+    ) = reader.next_call()
+    else {
+        return Err(Fail::new("congruence"));
     };
-    check_eq(reader.place(), 5)?;
-    let Ok(Some(Call::Ask { allowed, from: 0, to: 1 })) = reader.next_call() else {
+    check(arg_eqs.words == &[3, 4])?;
+    let Ok(
+        Some(
+            Call::Ask {
+                allowed,
+                from: 3,
+                to: 4,
+            },
+        ),
+    ) = reader.next_call()
+    else {
         return Err(Fail::new("question"));
     };
-    check(!allowed.can_mismatch_initial && !allowed.can_mismatch_congr)?;
-    let Ok(None) = reader.next_call() else {
-        return Err(Fail::new("end"));
-    };
-    Ok(())
+    check(!allowed.can_mismatch_initial && allowed.can_mismatch_congr)
 }

@@ -30,6 +30,7 @@ fn write_record(head: u32, first: &[u32], second: &[u32], out: &mut [u32]) -> Op
     Some(end)
 }
 
+// The head of a given of that kind with that many words behind it.
 fn given_head(kind: u32, count: u32) -> u32
     requires { ⌜ kind < 16 ⌝ ∗ ⌜ count < 2 ^ 24 ⌝ }
     ensures { λ r. ⌜ r ≡ given-head kind count ⌝ }
@@ -37,12 +38,14 @@ fn given_head(kind: u32, count: u32) -> u32
     2 * PAYLOADS + kind * COUNTS + count
 }
 
+// A question's two permissions as its payload.
 fn permission(allowed: TransEqAllowed) -> u32
     ensures { λ r. ⌜ r ≡ permission-of allowed ⌝ }
 {
     u32::from(allowed.can_mismatch_initial) + 2 * u32::from(allowed.can_mismatch_congr)
 }
 
+// An odd last word is in no pair, and is not written.
 fn write_congruence(from: u32, to: u32, arguments: ArgPairs<'_>, out: &mut [u32]) -> Option<usize>
     ensures { λ r. ⌜ Writes (congruence from to (now (arguments .entry .words))) (now (out .entry)) r (now (out .exit)) ⌝ }
 {
@@ -50,7 +53,12 @@ fn write_congruence(from: u32, to: u32, arguments: ArgPairs<'_>, out: &mut [u32]
     if count == 0 || count >= (COUNTS - 2) as usize {
         return None;
     }
-    write_record(given_head(2, 2 + count as u32), &[from, to], &arguments.words[0..count], out)
+    write_record(
+        given_head(2, 2 + count as u32),
+        &[from, to],
+        &arguments.words[0..count],
+        out,
+    )
 }
 
 fn write_given(expl: &EqualityExpl<'_>, out: &mut [u32]) -> Option<usize>
@@ -58,11 +66,26 @@ fn write_given(expl: &EqualityExpl<'_>, out: &mut [u32]) -> Option<usize>
 {
     match *expl {
         EqualityExpl::Root { id } => write_record(given_head(0, 1), &[id], &[], out),
-        EqualityExpl::Literal { from, eq, to } => write_record(given_head(1, 3), &[from, to, eq], &[], out),
+        EqualityExpl::Literal { from, eq, to } => write_record(
+            given_head(1, 3),
+            &[from, to, eq],
+            &[],
+            out,
+        ),
         EqualityExpl::Congruence { from, arg_eqs, to } => write_congruence(from, to, arg_eqs, out),
-        EqualityExpl::Theory { from, theory, to } => write_record(given_head(3, 3), &[from, to, theory], &[], out),
+        EqualityExpl::Theory { from, theory, to } => write_record(
+            given_head(3, 3),
+            &[from, to, theory],
+            &[],
+            out,
+        ),
         EqualityExpl::Axiom { from, to } => write_record(given_head(4, 2), &[from, to], &[], out),
-        EqualityExpl::Unknown { kind, from, to } => write_record(given_head(5, 3), &[from, to, kind], &[], out),
+        EqualityExpl::Unknown { kind, from, to } => write_record(
+            given_head(5, 3),
+            &[from, to, kind],
+            &[],
+            out,
+        ),
     }
 }
 
@@ -80,7 +103,12 @@ pub fn write_call(call: &Call<'_>, out: &mut [u32]) -> Option<usize>
         Call::Given { expl } => write_given(&expl, out),
         Call::Open => write_record(3 * PAYLOADS, &[], &[], out),
         Call::Close => write_record(4 * PAYLOADS, &[], &[], out),
-        Call::Ask { allowed, from, to } => write_record(5 * PAYLOADS + permission(allowed), &[from, to], &[], out),
+        Call::Ask { allowed, from, to } => write_record(
+            5 * PAYLOADS + permission(allowed),
+            &[from, to],
+            &[],
+            out,
+        ),
     }
 }
 

@@ -14,14 +14,16 @@ use Rattle.wordlog.proofs.writer.write_congruence.Needs.{then-count-eq0·by·t
 pub returns-then-count-eq0 : need.returns-then-count-eq0
 returns-then-count-eq0 c =
     let ws = c .args .arguments .words .now in
-    let n : length (take (length ws / 2 * 2) ws) ≡ length ws / 2 * 2 = length-take-le _ ws (omega arith) in
-    (refl, λ p.
-      absurd (congruence-refused (c .args .from) (c .args .to) ws _ (words-in-pairs ws)
-        (elim (c .then-count-eq0 .came) [
-          then-count-eq0·by·then-count-eq0 w ↦ inl (omega arith)
-        | then-count-eq0·by·else-count-eq0·then-count w ↦ inr (omega arith)
-        ])
-        p))
+    let n : length (take (length ws / 2 * 2) ws) ≡ length ws / 2 * 2 = length-take-le _ ws (omega arith) in (
+      refl,
+      λ p.
+          absurd (congruence-refused (c .args .from) (c .args .to) ws _ (words-in-pairs ws)
+          (elim (c .then-count-eq0 .came) [
+            | then-count-eq0·by·then-count-eq0 w ↦ inl (omega arith)
+            | then-count-eq0·by·else-count-eq0·then-count w ↦ inr (omega arith)
+          ])
+          p),
+    )
 
 pub returns : need.returns
 returns c =

@@ -9,13 +9,15 @@ use Rattle.wordlog.proofs.writer.write_record.Needs.{then-out-end·by·then-ou
 
 pub returns-then-out-end : need.returns-then-out-end
 returns-then-out-end c =
-    let n = length-append (c .args .first .now) (c .args .second .now) in
-    (refl, λ p.
-      elim (c .then-out-end .came) [
-        then-out-end·by·then-out-end w ↦ omega arith
-      | then-out-end·by·else-out-end·then-not-all-plain w ↦ absurd (plain-not _ (w .if-not-all-plain .ensures tt) (plain-first (c .args .first .now) (c .args .second .now) p))
-      | then-out-end·by·else-out-end·else-not-all-plain·then-not-all-plain-2 w ↦ absurd (plain-not _ (w .if-not-all-plain-2 .ensures tt) (plain-second (c .args .first .now) (c .args .second .now) p))
-      ])
+    let n = length-append (c .args .first .now) (c .args .second .now) in (
+      refl,
+      λ p.
+          elim (c .then-out-end .came) [
+            | then-out-end·by·then-out-end w ↦ omega arith
+            | then-out-end·by·else-out-end·then-not-all-plain w ↦ absurd (plain-not _ (w .if-not-all-plain .ensures tt) (plain-first (c .args .first .now) (c .args .second .now) p))
+            | then-out-end·by·else-out-end·else-not-all-plain·then-not-all-plain-2 w ↦ absurd (plain-not _ (w .if-not-all-plain-2 .ensures tt) (plain-second (c .args .first .now) (c .args .second .now) p))
+          ],
+    )
 
 pub returns : need.returns
 returns c =
