@@ -6,7 +6,7 @@ ghost use lib.ListN.{length};
 ghost use Rattle.model.specs.Refusals.{refusal-of, unreadable as unreadable-at};
 ghost use Rattle.wordlog.specs.Calls.{front-as};
 ghost use Rattle.wordlog.specs.Reading.{front, Accepts, Complete};
-ghost use Rattle.wordlog.specs.Log.{next, next-as, words-read, ragged-read};
+ghost use Rattle.wordlog.specs.Log.{next, next-as, Within, moved, answer-as, words-read, ragged-read};
 use crate::call::Call;
 use crate::shapes::read_kind;
 use crate::word::PAYLOADS;
@@ -49,6 +49,24 @@ fn unreadable(place: u32) -> Fault
     }
 }
 
+// The call at a place of the words, and the place behind it.
+fn call_at<'a>(words: &'a [u32], ragged: bool, at: usize) -> Result<(Option<Call<'a>>, usize), Fault>
+    requires { ⌜ at ≤ length (now words) ⌝ ∗ ⌜ length (now words) ≤ 16384 ⌝ }
+    ensures is { λ r. ⌜ next-as r ≡ next (now (words .entry)) ragged at ⌝ }
+    ensures within { λ r. ⌜ Within r (length (now (words .entry))) ⌝ }
+{
+    if at == words.len() {
+        if ragged {
+            return Err(unreadable(at as u32));
+        }
+        return Ok((None, at));
+    }
+    let Some((call, taken)) = read_call(&words[at..]) else {
+        return Err(unreadable(at as u32));
+    };
+    Ok((Some(call), at + taken))
+}
+
 impl<'a> Reader<'a> {
     // Keeps the words within the limit; what is left over behind the limit is not read.
     pub fn new(words: &'a [u32], ragged: bool) -> Reader<'a>
@@ -56,17 +74,11 @@ impl<'a> Reader<'a> {
         ensures ragged { λ r. ⌜ r .ragged ≡ ragged-read (now (words .entry)) ragged ⌝ }
         ensures at { λ r. ⌜ r .at ≡ 0 ⌝ }
     {
-        if words.len() < LIMIT {
-            return Reader {
-                words,
-                at: 0,
-                ragged,
-            };
-        }
+        let count = words.len().min(LIMIT);
         Reader {
-            words: &words[0..LIMIT],
+            words: &words[0..count],
             at: 0,
-            ragged: false,
+            ragged: words.len() < LIMIT && ragged,
         }
     }
 
@@ -79,20 +91,12 @@ impl<'a> Reader<'a> {
 
     // The next call; None at the end of the log. A fault leaves the reader as it is.
     pub fn next_call(&mut self) -> Result<Option<Call<'a>>, Fault>
-        ensures outcome { λ r. ⌜ (next-as r, now (self .exit) .at) ≡ next (now (now (self .entry) .words)) (now (self .entry) .ragged) (now (self .entry) .at) ⌝ }
+        ensures outcome { λ r. ⌜ (answer-as r, now (self .exit) .at) ≡ moved (now (self .entry) .at) (next (now (now (self .entry) .words)) (now (self .entry) .ragged) (now (self .entry) .at)) ⌝ }
         ensures words { λ _. ⌜ now (now (self .exit) .words) ≡ now (now (self .entry) .words) ⌝ }
         ensures ragged { λ _. ⌜ now (self .exit) .ragged ≡ now (self .entry) .ragged ⌝ }
     {
-        if self.at == self.words.len() {
-            if self.ragged {
-                return Err(unreadable(self.place()));
-            }
-            return Ok(None);
-        }
-        let Some((call, taken)) = read_call(&self.words[self.at..]) else {
-            return Err(unreadable(self.place()));
-        };
-        self.at += taken;
-        Ok(Some(call))
+        let (call, behind) = call_at(self.words, self.ragged, self.at)?;
+        self.at = behind;
+        Ok(call)
     }
 }
