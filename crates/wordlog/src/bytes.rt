@@ -1,11 +1,13 @@
 // The words of a log from its bytes.
 ghost use mathlib.Core.Path.{_≡_};
-ghost use Rattle.std.specs.shelf.Maps.{nth};
-ghost use Rattle.wordlog.specs.Bytes.{words-in, fitting, filled};
+ghost use Prim.Native.Nat.{_*_, _/_, _<_, _≤_};
+ghost use lib.ListN.{length};
+ghost use Rattle.std.specs.Options.{Cases};
+ghost use Rattle.wordlog.specs.Bytes.{word-from, words-in, fitting, filled};
 
 // The word at a place, its lowest byte first; None past the last whole word.
 pub fn word_at(bytes: &[u8], i: usize) -> Option<u32>
-    ensures { λ r. ⌜ r ≡ nth (words-in (now (bytes .entry))) i ⌝ }
+    ensures { λ r. ⌜ Cases r (length (now (bytes .entry)) / 4 ≤ i) (λ w. (i < length (now (bytes .entry)) / 4) × (w ≡ word-from (now (bytes .entry)) (4 * i))) ⌝ }
 {
     if i >= bytes.len() / 4 {
         return None;
