@@ -1,1 +1,2 @@
 pub mod rule;
+mod table;

@@ -1,0 +1,2 @@
+pub mod OpenFrames
+pub mod HandedOut
