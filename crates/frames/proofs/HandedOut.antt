@@ -18,7 +18,7 @@ use Rattle.model.specs.declared.items.Frame.{Frame}
 use Rattle.model.specs.declared.error.Fault.{Fault}
 use Rattle.model.specs.declared.error.TableName.the-variants.{FrameCount}
 use Rattle.model.specs.Refusals.{Refusal, full, told, refusal-of}
-use Rattle.model.specs.Frames.{Frames, Lawful, no-frame, is-open, current, counted, opened-more, counted-more, closed, open-frame, log-frame, close-frame}
+use Rattle.model.specs.Frames.{Frames, Lawful, Within, no-frame, is-open, current, counted, opened-more, counted-more, closed, open-frame, log-frame, close-frame}
 use Rattle.frames.specs.declared.table.FrameTable.{FrameTable}
 use Rattle.frames.specs.Tables.{Sound, handed-out, counted-up}
 use Rattle.frames.proofs.OpenFrames.{opening-lawful, logging-lawful, closing-lawful, open-push}
@@ -57,6 +57,9 @@ module _ (t : FrameTable) (s : Sound t) where
 
   pub current-is : current (m .opened) ≡ last-of t
   current-is = rw opened-length (getD-take (t .len) (t .frames) (t .len - 1) no-frame (omega arith))
+
+  pub table-within : Within 64 m
+  table-within = rw opened-length (s .1, s .2, rw (getD-take (t .len) (t .frames) 0 no-frame (s .1)) (s .3))
 
   pub more-means : t .len < 64 → handed-out (with-more t) ≡ opened-more m
   more-means h = rw (take-more-set (t .frames) (t .len) (record { number = t .next; count = 0 }) (omega arith), fun-ext (λ f. below-more f (t .next)))

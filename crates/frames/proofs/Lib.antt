@@ -1,2 +1,4 @@
 pub mod OpenFrames
+pub mod OpenOnly
 pub mod HandedOut
+pub mod Holders

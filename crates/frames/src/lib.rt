@@ -1,2 +1,4 @@
+pub mod every;
+pub mod live;
 pub mod rule;
 mod table;
