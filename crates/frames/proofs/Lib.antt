@@ -2,3 +2,4 @@ pub mod OpenFrames
 pub mod OpenOnly
 pub mod HandedOut
 pub mod Holders
+pub mod Running

@@ -1,4 +1,6 @@
 pub mod every;
+pub mod laws;
 pub mod live;
 pub mod rule;
+pub mod run;
 mod table;
