@@ -4,3 +4,6 @@ pub mod live;
 pub mod rule;
 pub mod run;
 mod table;
+
+#[cfg(test)]
+mod tests;
