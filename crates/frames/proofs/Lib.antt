@@ -3,3 +3,4 @@ pub mod OpenOnly
 pub mod HandedOut
 pub mod Holders
 pub mod Running
+pub mod LastClosed

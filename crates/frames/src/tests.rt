@@ -1,4 +1,6 @@
 // What the rules do on examples.
+mod recent;
+
 use crate::every::Every;
 use crate::every::EveryRule;
 use crate::live::Live;
@@ -7,6 +9,8 @@ use crate::rule::FrameRule;
 use model::error::Cause;
 use model::error::Fault;
 use model::error::TableName;
+use recent::Recent;
+use recent::RecentRule;
 use std::test::*;
 
 fn answers(r: Result<u32, Fault>, number: u32) -> Result<(), Fail> {
@@ -74,4 +78,15 @@ fn a_count_fills() -> Result<(), Fail> {
         Err(Fault { cause: Cause::Full(TableName::FrameCount), .. }) => Ok(()),
         _ => Err(Fail::new("a given past the frame's count")),
     }
+}
+
+#[test]
+fn a_rule_may_go_by_its_last_closing() -> Result<(), Fail> {
+    let mut rule = Recent::new();
+    answers(rule.open(), 1)?;
+    answers(rule.close(), 0)?;
+    answers(rule.open(), 2)?;
+    check(rule.counts(1) && rule.counts(2))?;
+    answers(rule.close(), 0)?;
+    check(!rule.counts(1) && rule.counts(2))
 }
