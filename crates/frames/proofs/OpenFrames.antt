@@ -42,31 +42,27 @@ open-here f os i h e = rw (open-from f os i h, eq-eqb f _ (sym e))
 pub open-later : (f : ℕ) (os : List Frame) (i : ℕ) → i < length os → (getD os i no-frame .number ≡ f → ⊥) → is-open f (drop i os) ≡ is-open f (drop (i + 1) os)
 open-later f os i h ne = rw (open-from f os i h, ne-eqb f _ (λ e. ne (sym e)))
 
-abbrev Outcome : Type 0
-Outcome = Result ℕ Refusal × Frames
+-- one frame more, the last one counted up, and one less with none taken out of the set
+pub more-lawful : (m : Frames) → Lawful m → Lawful (opened-more m)
+more-lawful m l f e =
+    let p = open-push f (m .opened) (record { number = m .next; count = 0 }) in
+    let q = l f in
+    grind (arith, tells, q)
+
+pub counted-lawful : (m : Frames) → Lawful m → Lawful (counted-more m)
+counted-lawful m l f e = l f (rw (open-counted f (m .opened)) at e)
+
+pub less-lawful : (m : Frames) → Lawful m → Lawful (closed (λ _. false) m)
+less-lawful m l f e = rw (l f (open-take f (length (m .opened) - 1) (m .opened) e))
 
 -- what holds after a call is shown where it is granted and where it is refused
-after : (P : Frames → Type 0) (test : Bool) (granted refused : Outcome) → P (granted .1) → P (refused .1) → P (cond test granted refused .1)
+after : (P : Frames → Type 0) (test : Bool) (granted refused : Result ℕ Refusal × Frames) → P (granted .1) → P (refused .1) → P (cond test granted refused .1)
 after P true granted refused p q = p
 after P false granted refused p q = q
 
 -- opening and logging keep the law, whatever the rule
 pub opening-lawful : (limit : ℕ) (m : Frames) → Lawful m → Lawful (open-frame limit m .1)
-opening-lawful limit m l = after Lawful (ltb (length (m .opened)) limit && ltb (m .next) 65536) _ _ more l
-  where
-  more : Lawful (opened-more m)
-  more f e =
-      let p = open-push f (m .opened) (record { number = m .next; count = 0 }) in
-      let q = l f in
-      grind (arith, tells, q)
+opening-lawful limit m l = after Lawful (ltb (length (m .opened)) limit && ltb (m .next) 65536) _ _ (more-lawful m l) l
 
 pub logging-lawful : (m : Frames) → Lawful m → Lawful (log-frame m .1)
-logging-lawful m l = after Lawful (ltb (current (m .opened) .count) 65536) _ _ (λ f e. l f (rw (open-counted f (m .opened)) at e)) l
-
--- no frame joins the set at a closing
-pub closing-adds-none : (leaves : ℕ → Bool) (m : Frames) (f : ℕ) → close-frame leaves m .1 .counts f ≡ true → m .counts f ≡ true
-closing-adds-none leaves m f = after (λ n. n .counts f ≡ true → m .counts f ≡ true) (ltb 1 (length (m .opened))) _ _ (λ e. and-parts (m .counts f) (not (leaves f)) e .0) (λ e. e)
-
--- a closing at which no frame leaves the set keeps it too
-pub closing-lawful : (m : Frames) → Lawful m → Lawful (close-frame (λ _. false) m .1)
-closing-lawful m l = after Lawful (ltb 1 (length (m .opened))) _ _ (λ f e. rw (l f (open-take f (length (m .opened) - 1) (m .opened) e))) l
+logging-lawful m l = after Lawful (ltb (current (m .opened) .count) 65536) _ _ (counted-lawful m l) l

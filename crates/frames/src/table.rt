@@ -1,13 +1,9 @@
 // The table of open frames that both rules keep: the newest is last, and numbers are never handed out twice.
 ghost use mathlib.Core.Path.{_≡_};
-ghost use mathlib.Core.Bool.{false};
-ghost use Prim.Native.Nat.{_<_};
-ghost use lib.ListN.{length};
-ghost use Rattle.std.specs.Results.{Cases};
 ghost use Rattle.std.specs.declared.option.Option.the-variants.{None};
-ghost use Rattle.model.specs.Frames.{base, open-frame, log-frame, close-frame, current, is-open};
+ghost use Rattle.model.specs.Frames.{base, is-open};
 ghost use Rattle.model.specs.Refusals.{told};
-ghost use Rattle.frames.specs.Tables.{Sound, handed-out, counted-up};
+ghost use Rattle.frames.specs.Tables.{Sound, counted-up, handed-out, last-of, table-close, table-log, table-open};
 use model::error::Cause;
 use model::error::Fault;
 use model::error::TableName;
@@ -65,14 +61,14 @@ impl FrameTable {
 
     pub fn height(&self) -> u32
         requires { ⌜ Sound (now self) ⌝ }
-        ensures { λ r. ⌜ r ≡ length (handed-out (now (self .entry)) .opened) ⌝ }
+        ensures { λ r. ⌜ r ≡ now (self .entry) .len ⌝ }
     {
         self.len as u32
     }
 
     pub fn active_frame(&self) -> u32
         requires { ⌜ Sound (now self) ⌝ }
-        ensures { λ r. ⌜ r ≡ current (handed-out (now (self .entry)) .opened) .number ⌝ }
+        ensures { λ r. ⌜ r ≡ last-of (now (self .entry)) .number ⌝ }
     {
         self.frames[self.len - 1].number
     }
@@ -86,9 +82,7 @@ impl FrameTable {
 
     pub fn open(&mut self) -> Result<u32, Fault>
         requires { ⌜ Sound (now self) ⌝ }
-        ensures sound { λ _. ⌜ Sound (now (self .exit)) ⌝ }
-        ensures outcome { λ r. ⌜ (told r, handed-out (now (self .exit))) ≡ open-frame 64 (handed-out (now (self .entry))) ⌝ }
-        ensures kept { λ r. ⌜ Cases r (λ _. Unit {0}) (λ _. now (self .exit) ≡ now (self .entry)) ⌝ }
+        ensures { λ r. ⌜ (told r, now (self .exit)) ≡ table-open (now (self .entry)) ⌝ }
     {
         let len = self.len;
         let next = self.next;
@@ -103,20 +97,15 @@ impl FrameTable {
 
     pub fn log_given(&mut self) -> Result<u32, Fault>
         requires { ⌜ Sound (now self) ⌝ }
-        ensures sound { λ _. ⌜ Sound (now (self .exit)) ⌝ }
-        ensures outcome { λ r. ⌜ (told r, handed-out (now (self .exit))) ≡ log-frame (handed-out (now (self .entry))) ⌝ }
-        ensures kept { λ r. ⌜ Cases r (λ _. Unit {0}) (λ _. now (self .exit) ≡ now (self .entry)) ⌝ }
+        ensures { λ r. ⌜ (told r, now (self .exit)) ≡ table-log (now (self .entry)) ⌝ }
     {
         let last = self.len - 1;
         count_up(&mut self.frames[last])
     }
 
-    // No number that was handed out leaves the set.
     pub fn close(&mut self) -> Result<u32, Fault>
         requires { ⌜ Sound (now self) ⌝ }
-        ensures sound { λ _. ⌜ Sound (now (self .exit)) ⌝ }
-        ensures outcome { λ r. ⌜ (told r, handed-out (now (self .exit))) ≡ close-frame (λ _. false) (handed-out (now (self .entry))) ⌝ }
-        ensures kept { λ r. ⌜ Cases r (λ _. Unit {0}) (λ _. now (self .exit) ≡ now (self .entry)) ⌝ }
+        ensures { λ r. ⌜ (told r, now (self .exit)) ≡ table-close (now (self .entry)) ⌝ }
     {
         let len = self.len;
         if len <= 1 {
