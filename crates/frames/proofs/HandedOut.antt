@@ -5,7 +5,7 @@ use mathlib.Core.Bool.{Bool, true, false, cond, _&&_, _||_, and-true}
 use mathlib.Core.Logic.{_≢_, inl, inr}
 use native.Mathlib.Omega.{arith}
 use lib.Dec.{eqb, ltb}
-use lib.ListN.{length, getD, take, set}
+use lib.ListN.{length, getD, set}
 use lib.Seq.{take-set-lt}
 use Rattle.std.proofs.shelf.Lists.{length-set, length-take-le, getD-take, take-take, take-more-set, getD-set-same, getD-set-other, set-getD}
 use Rattle.std.proofs.shelf.Tests.{ltb-true, and-parts, cases-bool, cases-eq}
@@ -13,7 +13,6 @@ use Rattle.std.proofs.shelf.Ways.{tells}
 use Rattle.std.specs.Results.{Cases}
 use Rattle.std.specs.declared.result.Result.{Result}
 use Rattle.std.specs.declared.result.Result.the-variants.{Ok, Err}
-use Rattle.model.specs.declared.items.Frame.{Frame}
 use Rattle.model.specs.declared.error.Fault.{Fault}
 use Rattle.model.specs.declared.error.TableName.the-variants.{FrameCount}
 use Rattle.model.specs.Refusals.{Refusal, full, frame-limit, only-base, told}
@@ -44,6 +43,9 @@ by-test false x more t e m s h u (Err f) q = record {
   kept = ap (λ p. p .1) q;
 }
 
+below-more : (f n : ℕ) → ltb f (n + 1) ≡ (ltb f n || eqb f n)
+below-more f n = grind (arith, tells)
+
 module _ (t : FrameTable) (s : Sound t) where
   abbrev m : Frames
   m = handed-out t
@@ -58,9 +60,6 @@ module _ (t : FrameTable) (s : Sound t) where
   table-within = rw opened-length (s .1, s .2, rw (getD-take (t .len) (t .frames) 0 no-frame (s .1)) (s .3))
 
   -- one frame more
-  below-more : (f n : ℕ) → ltb f (n + 1) ≡ (ltb f n || eqb f n)
-  below-more f n = grind (arith, tells)
-
   more-means : t .len < 64 → handed-out (with-more t) ≡ opened-more m
   more-means h = rw (take-more-set (t .frames) (t .len) (record { number = t .next; count = 0 }) (omega arith), fun-ext (λ f. below-more f (t .next)))
 
@@ -72,8 +71,8 @@ module _ (t : FrameTable) (s : Sound t) where
   pub opening : (u : FrameTable) (r : Result ℕ Fault) → (told r, u) ≡ table-open t → Called t u r (open-frame 64 m)
   opening u r e = by-test (ltb (length (m .opened)) 64 && ltb (t .next) 65536) (t .next) (with-more t) t (frame-limit (length (m .opened))) (opened-more m) s room u r (e ∙ rw opened-length)
     where
-    room : (ltb (length (m .opened)) 64 && ltb (t .next) 65536) ≡ true → Sound (with-more t) × (handed-out (with-more t) ≡ opened-more m)
-    room q = let h : t .len < 64 = rw opened-length at (ltb-true (length (m .opened)) 64 (and-parts _ _ q .0)) in (more-sound h, more-means h)
+      room : (ltb (length (m .opened)) 64 && ltb (t .next) 65536) ≡ true → Sound (with-more t) × (handed-out (with-more t) ≡ opened-more m)
+      room q = let h : t .len < 64 = rw opened-length at (ltb-true (length (m .opened)) 64 (and-parts _ _ q .0)) in (more-sound h, more-means h)
 
   -- one frame less
   less-means : handed-out (with-less t) ≡ closed (λ _. false) m
@@ -85,8 +84,8 @@ module _ (t : FrameTable) (s : Sound t) where
   pub closing : (u : FrameTable) (r : Result ℕ Fault) → (told r, u) ≡ table-close t → Called t u r (close-frame (λ _. false) m)
   closing u r e = by-test (ltb 1 (length (m .opened))) (current (m .opened) .count) (with-less t) t only-base (closed (λ _. false) m) s room u r (e ∙ rw (current-is, opened-length))
     where
-    room : ltb 1 (length (m .opened)) ≡ true → Sound (with-less t) × (handed-out (with-less t) ≡ closed (λ _. false) m)
-    room q = (less-sound (rw opened-length at (ltb-true 1 (length (m .opened)) q)), less-means)
+      room : ltb 1 (length (m .opened)) ≡ true → Sound (with-less t) × (handed-out (with-less t) ≡ closed (λ _. false) m)
+      room q = (less-sound (rw opened-length at (ltb-true 1 (length (m .opened)) q)), less-means)
 
   -- the last frame counted up
   last-means : handed-out (with-last (counted (last-of t)) t) ≡ counted-more m
@@ -95,10 +94,11 @@ module _ (t : FrameTable) (s : Sound t) where
   last-sound : Sound (with-last (counted (last-of t)) t)
   last-sound = (length-set (t .frames) (t .len - 1) _ ∙ s .0, s .1, s .2, first-kept, subst Lawful (sym last-means) (counted-lawful m (s .4)))
     where
-    first-kept : getD (set (t .frames) (t .len - 1) (counted (last-of t))) 0 no-frame .number ≡ 0
-    first-kept = elim (cases-eq 0 (t .len - 1)) [
-        inl q ↦ let low : 0 < length (t .frames) = omega arith in rw (← q, getD-set-same) (s .3)
-      | inr q ↦ rw getD-set-other (s .3) ]
+      first-kept : getD (set (t .frames) (t .len - 1) (counted (last-of t))) 0 no-frame .number ≡ 0
+      first-kept = elim (cases-eq 0 (t .len - 1)) [
+        | inl q ↦ let low : 0 < length (t .frames) = omega arith in rw (← q, getD-set-same) (s .3)
+        | inr q ↦ rw getD-set-other (s .3)
+      ]
 
   log-tests : table-log t ≡ cond (ltb (current (m .opened) .count) 65536) (Ok (current (m .opened) .number), with-last (counted (last-of t)) t) (Err (full FrameCount), t)
   log-tests = elim (cases-bool (ltb (last-of t .count) 65536)) [ inl q ↦ rw (current-is, q) | inr q ↦ rw (current-is, q, set-getD (t .frames) (t .len - 1) no-frame) ]

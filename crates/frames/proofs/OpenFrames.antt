@@ -1,18 +1,18 @@
 -- Which frames are open, and that every open frame counts.
 use Prim.Native.Nat.{ℕ, zero, suc, _+_, _-_, _<_}
 use mathlib.Core.Path.{_≡_, refl, sym, ap}
-use mathlib.Core.Bool.{Bool, true, false, cond, not, _&&_, _||_}
+use mathlib.Core.Bool.{Bool, true, false, cond, _&&_, _||_}
 use mathlib.Core.List.{List, [], _∷_, _++_}
 use native.Mathlib.Omega.{arith}
 use lib.Dec.{eqb, ltb}
 use lib.ListN.{length, getD, take, drop, set}
 use Rattle.std.proofs.shelf.Lists.{at-drop-more}
-use Rattle.std.proofs.shelf.Tests.{and-parts, eq-eqb, ne-eqb}
+use Rattle.std.proofs.shelf.Tests.{eq-eqb, ne-eqb}
 use Rattle.std.proofs.shelf.Ways.{tells}
 use Rattle.std.specs.declared.result.Result.{Result}
 use Rattle.model.specs.declared.items.Frame.{Frame}
 use Rattle.model.specs.Refusals.{Refusal}
-use Rattle.model.specs.Frames.{Frames, Lawful, no-frame, is-open, before-current, current, counted, opened-more, counted-more, closed, open-frame, log-frame, close-frame}
+use Rattle.model.specs.Frames.{Frames, Lawful, no-frame, is-open, current, counted, opened-more, counted-more, closed, open-frame, log-frame}
 
 pub open-push : (f : ℕ) (os : List Frame) (o : Frame) → is-open f (os ++ (o ∷ [])) ≡ (is-open f os || eqb f (o .number))
 open-push f [] o = grind (arith, tells)

@@ -1,14 +1,12 @@
 -- The calls commute with counting only the open frames.
 use Prim.Native.Nat.{ℕ, _-_}
-use mathlib.Core.Path.{_≡_, refl, sym, ap, _∙_, fun-ext}
-use mathlib.Core.Bool.{Bool, true, false, cond, not, _&&_, _||_}
-use mathlib.Core.List.{List, [], _∷_}
+use mathlib.Core.Path.{_≡_, refl, fun-ext}
+use mathlib.Core.Bool.{Bool, true, false, cond, not, _&&_}
 use native.Mathlib.Omega.{arith}
 use lib.Dec.{ltb}
 use lib.ListN.{length}
 use Rattle.std.proofs.shelf.Ways.{tells}
 use Rattle.std.specs.declared.result.Result.{Result}
-use Rattle.model.specs.declared.items.Frame.{Frame}
 use Rattle.model.specs.Refusals.{Refusal}
 use Rattle.model.specs.Frames.{Frames, is-open, before-current, current, opened-more, counted-more, closed, open-frame, log-frame, close-frame}
 use Rattle.frames.specs.Tables.{open-only, not-below}
@@ -35,5 +33,5 @@ logging-only m = either-way open-only (ltb (current (m .opened) .count) 65536) _
 pub closing-only : (leaves : ℕ → Bool) (m : Frames) → seen open-only (close-frame leaves m) ≡ close-frame (not-below m) (open-only m)
 closing-only leaves m = either-way open-only (ltb 1 (length (m .opened))) _ _ m (closed leaves m) (closed (not-below m) (open-only m)) (rw (fun-ext left-open))
   where
-  left-open : (f : ℕ) → is-open f (before-current (m .opened)) ≡ (is-open f (m .opened) && not (not-below m f))
-  left-open f = let p = open-take f (length (m .opened) - 1) (m .opened) in grind (arith, tells, p)
+    left-open : (f : ℕ) → is-open f (before-current (m .opened)) ≡ (is-open f (m .opened) && not (not-below m f))
+    left-open f = let p = open-take f (length (m .opened) - 1) (m .opened) in grind (arith, tells, p)

@@ -12,7 +12,7 @@ use Rattle.std.specs.declared.result.Result.{Result}
 use Rattle.std.specs.declared.result.Result.the-variants.{Ok, Err}
 use Rattle.model.specs.declared.error.Fault.{Fault}
 use Rattle.model.specs.Refusals.{Refusal, told}
-use Rattle.model.specs.Frames.{Frames, Lawful, base, open-frame, log-frame, close-frame}
+use Rattle.model.specs.Frames.{Frames, Lawful, base}
 use Rattle.frames.specs.declared.run.FrameCall.{FrameCall}
 use Rattle.frames.specs.declared.run.FrameCall.the-variants.{Open, Log, Close}
 use Rattle.frames.specs.Runs.{Reaches, Allowed, call-frame, refusals, Open-frames-count}

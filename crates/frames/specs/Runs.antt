@@ -39,13 +39,10 @@ Reaches limit first (c ∷ cs) refused last =
 abbrev pub Open-frames-count : Type 0
 Open-frames-count = (limit : ℕ) (calls : List FrameCall) (refused : ℕ) (m : Frames) → Reaches limit base calls refused m → Lawful m
 
--- an opening and a logging keep that by themselves
-abbrev pub Opening-keeps : Type 0
-Opening-keeps = (limit : ℕ) (m : Frames) → Lawful m → Lawful (open-frame limit m .1)
+-- a call after which every open frame counts where every one did before
+abbrev pub Keeps-lawful : (Frames → Result ℕ Refusal × Frames) → Type 0
+Keeps-lawful call = (m : Frames) → Lawful m → Lawful (call m .1)
 
-abbrev pub Logging-keeps : Type 0
-Logging-keeps = (m : Frames) → Lawful m → Lawful (log-frame m .1)
-
--- a closing brings no frame into the set
-abbrev pub Closing-adds-none : Type 0
-Closing-adds-none = (leaves : ℕ → Bool) (m : Frames) (f : ℕ) → close-frame leaves m .1 .counts f ≡ true → m .counts f ≡ true
+-- a call that brings no frame into the set
+abbrev pub Adds-none : (Frames → Result ℕ Refusal × Frames) → Type 0
+Adds-none call = (m : Frames) (f : ℕ) → call m .1 .counts f ≡ true → m .counts f ≡ true

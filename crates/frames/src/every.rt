@@ -17,7 +17,9 @@ impl Every {
     pub fn new() -> Every
         ensures { λ r. ⌜ handed-out (r .table) ≡ base ⌝ }
     {
-        Every { table: FrameTable::new() }
+        Every {
+            table: FrameTable::new(),
+        }
     }
 }
 

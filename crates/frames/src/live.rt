@@ -16,7 +16,9 @@ impl Live {
     pub fn new() -> Live
         ensures { λ r. ⌜ open-only (handed-out (r .table)) ≡ base ⌝ }
     {
-        Live { table: FrameTable::new() }
+        Live {
+            table: FrameTable::new(),
+        }
     }
 }
 

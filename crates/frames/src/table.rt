@@ -10,7 +10,9 @@ use model::error::TableName;
 use model::items::Frame;
 
 const MAX_OPEN: usize = 64;
+
 const MAX_NUMBERS: u32 = 65536;
+
 const MAX_COUNT: u32 = 65536;
 
 #[derive(Clone, Copy)]
@@ -24,7 +26,12 @@ pub struct FrameTable {
 fn refused(cause: Cause) -> Fault
     ensures { λ r. ⌜ r ≡ record { cause = cause; pair = None; level = 0; argument = None } ⌝ }
 {
-    Fault { cause, pair: None, level: 0, argument: None }
+    Fault {
+        cause,
+        pair: None,
+        level: 0,
+        argument: None,
+    }
 }
 
 // One given more under the frame, where its count has room.
@@ -56,7 +63,14 @@ impl FrameTable {
         ensures sound { λ r. ⌜ Sound r ⌝ }
         ensures base { λ r. ⌜ handed-out r ≡ base ⌝ }
     {
-        FrameTable { frames: [Frame { number: 0, count: 0 }; 64], len: 1, next: 1 }
+        FrameTable {
+            frames: [Frame {
+                number: 0,
+                count: 0,
+            }; 64],
+            len: 1,
+            next: 1,
+        }
     }
 
     pub fn height(&self) -> u32
@@ -89,7 +103,10 @@ impl FrameTable {
         if len >= MAX_OPEN || next >= MAX_NUMBERS {
             return Err(refused(Cause::FrameLimit(len as u32)));
         }
-        self.frames[len] = Frame { number: next, count: 0 };
+        self.frames[len] = Frame {
+            number: next,
+            count: 0,
+        };
         self.len = len + 1;
         self.next = next + 1;
         Ok(next)

@@ -26,7 +26,12 @@ fn fills<R: FrameRule>(rule: &mut R) -> Result<(), Fail> {
         answers(rule.open(), number)?;
     }
     match rule.open() {
-        Err(Fault { cause: Cause::FrameLimit(64), .. }) => check_eq(rule.height(), 64),
+        Err(
+            Fault {
+                cause: Cause::FrameLimit(64),
+                ..
+            },
+        ) => check_eq(rule.height(), 64),
         _ => Err(Fail::new("a frame past the limit")),
     }
 }
@@ -51,7 +56,12 @@ fn closing_answers_the_count() -> Result<(), Fail> {
     answers(rule.log_given(), 1)?;
     answers(rule.close(), 2)?;
     match rule.close() {
-        Err(Fault { cause: Cause::OnlyBase, .. }) => check_eq(rule.active_frame(), 0),
+        Err(
+            Fault {
+                cause: Cause::OnlyBase,
+                ..
+            },
+        ) => check_eq(rule.active_frame(), 0),
         _ => Err(Fail::new("the base frame is closed")),
     }
 }
@@ -75,7 +85,12 @@ fn a_count_fills() -> Result<(), Fail> {
         answers(rule.log_given(), 0)?;
     }
     match rule.log_given() {
-        Err(Fault { cause: Cause::Full(TableName::FrameCount), .. }) => Ok(()),
+        Err(
+            Fault {
+                cause: Cause::Full(TableName::FrameCount),
+                ..
+            },
+        ) => Ok(()),
         _ => Err(Fail::new("a given past the frame's count")),
     }
 }

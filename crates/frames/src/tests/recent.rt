@@ -16,7 +16,10 @@ pub struct Recent {
 
 impl Recent {
     pub fn new() -> Recent {
-        Recent { table: FrameTable::new(), closed: 0 }
+        Recent {
+            table: FrameTable::new(),
+            closed: 0,
+        }
     }
 }
 

@@ -16,8 +16,9 @@ loop-call-again g c =
     let r = c .run-call .result in
     let after = c .run-call .last .rule in
     let many : c .if-is-err .refused ≡ before .refused + refusals (told r) = elim (c .if-is-err .came) [
-        then-is-err w ↦ omega (arith, w .refused-is, refused-once r (w .if-is-err .ensures tt .value))
-      | else-is-err w ↦ omega (arith, w .refused-is, refused-not r (w .if-is-err .ensures tt .value)) ] in
+      | then-is-err w ↦ omega (arith, w .refused-is, refused-once r (w .if-is-err .ensures tt .value))
+      | else-is-err w ↦ omega (arith, w .refused-is, refused-not r (w .if-is-err .ensures tt .value))
+    ] in
     let turn = run-turn (rule .limit) (rule .means (c .args .rule .now)) (c .args .calls .now) (before .call-index) (before .refused) (rule .means (before .rule)) (rule .leaves (before .rule)) Open (told r) (rule .means after) (c .if-is-err .refused) (c .loop-call-test .taken) (before .inv .0) (c .run-call .ensures) (g .R·FrameRule·met .lawful after) many in
     (turn, omega (arith, many, refused-few (told r), before .inv .1))
 
