@@ -11,3 +11,4 @@ pub mod Strikes
 pub mod Confluence
 pub mod Paths
 pub mod PathLaws
+pub mod WorkedCases

@@ -9,3 +9,10 @@ pub mod Paths
 pub mod PathLaws
 pub mod Format
 pub mod WalkCalls
+pub mod Memory
+pub mod Reading
+pub mod Chains
+pub mod Acts
+pub mod Questions
+pub mod Runs
+pub mod WorkedCases
