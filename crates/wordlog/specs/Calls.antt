@@ -1,15 +1,13 @@
 -- The code's calls as the calls of the definitions. Assumes nothing.
 use Prim.Native.Nat.{ℕ, _+_, _*_}
-use mathlib.Core.Bool.{Bool, true, false, cond}
+use mathlib.Core.Bool.{Bool, cond}
 use mathlib.Core.List.{List, [], _∷_}
 use denote.Ref.{now}
 use Rattle.std.specs.declared.option.Option.{Option}
 use Rattle.std.specs.declared.option.Option.the-variants.{Some, None}
 use Rattle.model.specs.declared.items.Pair.{Pair}
-use Rattle.model.specs.declared.items.ArgPairs.{ArgPairs}
 use Rattle.model.specs.declared.items.EqualityExpl.{EqualityExpl}
 use Rattle.model.specs.declared.items.EqualityExpl.the-variants as expl
-use Rattle.model.specs.Records.{Kind}
 use Rattle.model.specs.Records as records
 use Rattle.model.specs.Format.{Call, enode, given, open-frame, close-frame, ask}
 use Rattle.wordlog.specs.declared.call.TransEqAllowed.{TransEqAllowed}
@@ -22,12 +20,14 @@ pairs-of [] = []
 pairs-of (a ∷ []) = []
 pairs-of (a ∷ b ∷ ws) = record { from = a; to = b } ∷ pairs-of ws
 
+-- a permission that is given counts its bit
 abbrev pub flag : Bool → ℕ
 flag b = cond b 1 0
 
 abbrev pub permission : TransEqAllowed → ℕ
 permission p = flag (p .«can_mismatch_initial») + 2 * flag (p .«can_mismatch_congr»)
 
+-- a congruence with the words of its arguments
 abbrev pub congruence : ℕ → ℕ → List ℕ → Call
 congruence a b ws = given a b (records.Congruence (pairs-of ws))
 

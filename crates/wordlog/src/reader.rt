@@ -50,7 +50,11 @@ fn unreadable(place: u32) -> Fault
 }
 
 // The call at a place of the words, and the place behind it.
-fn call_at<'a>(words: &'a [u32], ragged: bool, at: usize) -> Result<(Option<Call<'a>>, usize), Fault>
+fn call_at<'a>(
+    words: &'a [u32],
+    ragged: bool,
+    at: usize,
+) -> Result<(Option<Call<'a>>, usize), Fault>
     requires { ⌜ at ≤ length (now words) ⌝ ∗ ⌜ length (now words) ≤ 16384 ⌝ }
     ensures is { λ r. ⌜ next-as r ≡ next (now (words .entry)) ragged at ⌝ }
     ensures within { λ r. ⌜ Within r (length (now (words .entry))) ⌝ }
