@@ -14,7 +14,7 @@ use Rattle.std.proofs.shelf.Bits.{shr-split, mod-below}
 use Rattle.std.proofs.shelf.Tests.{ltb-true, leb-true, eqb-true, and-parts, cond-both}
 use Rattle.model.specs.Records.{Kind, Literal, Theory, Unknown}
 use Rattle.model.specs.Format.{Call, given, open-frame, close-frame, pair-words, head, given-head, words, Plain, All-plain, Allowed}
-use Rattle.wordlog.specs.Calls.{pairs-of}
+use Rattle.model.specs.Explanations.{pairs-of}
 use Rattle.wordlog.specs.Reading.{Front, plain, some-if, all-plain, root-from, axiom-from, number-from, congruence-from, given-from, taking, given-front, ask-front, front-of, front, Accepts}
 use Rattle.wordlog.proofs.Plain.{plain-fact}
 use Rattle.wordlog.proofs.PairWords.{pair-words-length, words-of-pairs}
