@@ -16,3 +16,4 @@ pub mod Acts
 pub mod Questions
 pub mod Runs
 pub mod WorkedCases
+pub mod RunLaws

@@ -1,9 +1,17 @@
 // The theorems that users may rely on, each the contract of a function of its own.
 ghost use Rattle.model.specs.PathLaws.{Walks-lawful};
+ghost use Rattle.model.specs.WorkedCases.{Worked-cases};
 
 // Walks end, and a path joins its pair, over the nearest common ancestor where there is no circle, turns with its pair and composes.
 pub fn walks_lawful() -> u8
     ensures { λ _. ⌜ Walks-lawful ⌝ }
+{
+    0
+}
+
+// The worked cases hold of the definitions, down to what each leaves on file.
+pub fn worked_cases_hold() -> u8
+    ensures { λ _. ⌜ Worked-cases ⌝ }
 {
     0
 }
