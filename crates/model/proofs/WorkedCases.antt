@@ -17,4 +17,6 @@ worked-cases = record {
   inner = record { told = refl; none-stands = refl };
   stops = record { told = refl };
   replaced = record { told = refl; now-stands = refl };
+  used-again = record { told = refl; uses = refl };
+  without-same = record { told = refl; leaves = refl };
 }

@@ -164,6 +164,26 @@ pub record Replaced : Type 0 where
   pub told : tell every filed-meanwhile (ask-for 1 4 ∷ ask-for 0 4 ∷ []) ≡ (by-entry 3 ∷ by-entry 6 ∷ [])
   pub now-stands : stands (left every (filed-meanwhile ++ (ask-for 1 4 ∷ ask-for 0 4 ∷ [])) .standing) 0 4 ≡ Some 6
 
+abbrev pub congruence-circle : List Call
+congruence-circle = four ++ (congruence 0 1 (record { from = 2; to = 3 } ∷ []) ∷ axiom-from-to 1 0 ∷ axiom-from-to 2 3 ∷ [])
+
+-- a congruence that is settled again by the same answers has one use list
+pub record Used-again : Type 0 where
+  pub told : tell every congruence-circle (ask-for 0 1 ∷ ask-for 1 0 ∷ ask-for 0 1 ∷ []) ≡ (by-entry 1 ∷ by-entry 2 ∷ by-entry 3 ∷ [])
+  pub uses : left every (congruence-circle ++ (ask-for 0 1 ∷ ask-for 1 0 ∷ ask-for 0 1 ∷ [])) .uses ≡ (record { given = 0; members = 0 ∷ [] } ∷ [])
+
+abbrev pub same-argument : List Call
+same-argument = four ++ (congruence 0 1 (record { from = 2; to = 2 } ∷ []) ∷ [])
+
+-- equal enodes are no member of a use list; an empty list is one too
+pub record Without-same : Type 0 where
+  pub told : tell every same-argument (ask-for 0 1 ∷ []) ≡ (by-entry 0 ∷ [])
+  pub leaves : left every (same-argument ++ (ask-for 0 1 ∷ [])) ≡ record {
+    entries = entry-of (step (record { given = 0; forward = true }) (Some 0) ∷ []) 1 1 ∷ [];
+    uses = record { given = 0; members = [] } ∷ [];
+    standing = standing 0 1 0 ∷ [];
+  }
+
 pub record Worked-cases : Type 0 where
   pub same : Same
   pub again : Again
@@ -176,3 +196,5 @@ pub record Worked-cases : Type 0 where
   pub inner : Inner
   pub stops : Stops
   pub replaced : Replaced
+  pub used-again : Used-again
+  pub without-same : Without-same
