@@ -11,4 +11,8 @@ pub mod Strikes
 pub mod Confluence
 pub mod Paths
 pub mod PathLaws
+pub mod Growth
+pub mod ChainSteps
+pub mod Citations
+pub mod Remembering
 pub mod WorkedCases
