@@ -15,4 +15,5 @@ pub mod Growth
 pub mod ChainSteps
 pub mod Citations
 pub mod Remembering
+pub mod Passing
 pub mod WorkedCases

@@ -54,12 +54,16 @@ reads-newest e es = rw (eq-eqb (length es) (length es) refl, reads)
 pub newest-entry : (e : Entry) (es : List Entry) → entry-at (e ∷ es) (length es) ≡ e
 newest-entry e es = rw (eq-eqb (length es) (length es) refl, entry-at)
 
+-- one more entry, which stands for the pair
+abbrev pub with-entry : Pair → Entry → Memory → Memory
+with-entry p e m = record {
+  entries = e ∷ m .entries;
+  uses = m .uses;
+  standing = record { from = p .from; to = p .to; entry = length (m .entries) } ∷ without (m .standing) (p .from) (p .to);
+}
+
 pub sound-filed : (m : Memory) (p : Pair) (e : Entry) → All (Cited (m .uses) (length (m .entries))) (e .segments) → (is-mark (e .segments) ≡ true → segments-steps (reads (m .entries)) (e .segments) ≡ []) → Sound m →
-    Sound (record {
-      entries = e ∷ m .entries;
-      uses = m .uses;
-      standing = record { from = p .from; to = p .to; entry = length (m .entries) } ∷ without (m .standing) (p .from) (p .to);
-    })
+    Sound (with-entry p e m)
 sound-filed m p e cites bare s = record {
   standing = λ x y n q.
       let old : stands (without (m .standing) (p .from) (p .to)) x y ≡ Some n → n < length (m .entries) = λ r. s .standing x y n (without-stands (m .standing) (p .from) (p .to) x y n r) in
