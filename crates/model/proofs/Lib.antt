@@ -16,4 +16,5 @@ pub mod ChainSteps
 pub mod Citations
 pub mod Remembering
 pub mod Passing
+pub mod Asking
 pub mod WorkedCases

@@ -36,6 +36,10 @@ pub each-map : (P Q : Question → Type 0) → ((q : Question) → P q → Q q) 
 each-map P Q f [] h = tt
 each-map P Q f (q ∷ qs) h = (f q (h .0), each-map P Q f qs (h .1))
 
+-- an act that has told its questions
+abbrev pub none-pending : {A : Type 0} → A → List Question
+none-pending a = []
+
 module _ (next : Links) (size : ℕ) where
   abbrev pub way-of : Pair → Option Path
   way-of p = path next size (p .from) (p .to)
@@ -45,27 +49,34 @@ module _ (next : Links) (size : ℕ) where
     explains : (way : Path) → way-of p ≡ Some way → reads entries n ≡ way .steps → is-mark (entry-at entries n .segments) ≡ false → Says-of entries p n
     marks : way-of p ≡ None → is-mark (entry-at entries n .segments) ≡ true → Says-of entries p n
 
-  pub record Filed-for (entries : List Entry) (p : Pair) (n : ℕ) : Type 0 where
+  pub record Answers-by (entries : List Entry) (p : Pair) (n : ℕ) : Type 0 where
     pub from-known : p .from < size
     pub to-known : p .to < size
     pub on-file : n < length entries
     pub says : Says-of entries p n
+
+  pub record Filed-for (entries : List Entry) (p : Pair) (n : ℕ) : Type 0 where
+    pub answers : Answers-by entries p n
     pub count : (way : Path) → way-of p ≡ Some way → entry-at entries n .count ≡ length (way .steps)
     pub ends-at : entry-at entries n .last ≡ p .to
 
-  pub says-later : {es more : List Entry} → Longer es more → (p : Pair) (n : ℕ) → n < length es → Says-of es p n → Says-of more p n
+  says-later : {es more : List Entry} → Longer es more → (p : Pair) (n : ℕ) → n < length es → Says-of es p n → Says-of more p n
   says-later l p n lt (explains way q r k) = explains way q (longer-reads l n lt ∙ r) (ap (λ (e : Entry). is-mark (e .segments)) (longer-entry l n lt) ∙ k)
   says-later l p n lt (marks q k) = marks q (ap (λ (e : Entry). is-mark (e .segments)) (longer-entry l n lt) ∙ k)
 
   filed-later : {es more : List Entry} → Longer es more → (p : Pair) (n : ℕ) → Filed-for es p n → Filed-for more p n
-  filed-later l p n h = record {
-    from-known = h .from-known;
-    to-known = h .to-known;
-    on-file = omega (arith, h .on-file, longer-length l);
-    says = says-later l p n (h .on-file) (h .says);
-    count = λ way q. ap (λ (e : Entry). e .count) (longer-entry l n (h .on-file)) ∙ h .count way q;
-    ends-at = ap (λ (e : Entry). e .last) (longer-entry l n (h .on-file)) ∙ h .ends-at;
-  }
+  filed-later l p n h =
+      let lt = h .answers .on-file in
+      record {
+        answers = record {
+          from-known = h .answers .from-known;
+          to-known = h .answers .to-known;
+          on-file = omega (arith, lt, longer-length l);
+          says = says-later l p n lt (h .answers .says);
+        };
+        count = λ way q. ap (λ (e : Entry). e .count) (longer-entry l n lt) ∙ h .count way q;
+        ends-at = ap (λ (e : Entry). e .last) (longer-entry l n lt) ∙ h .ends-at;
+      }
 
   -- what a question filed is for its pair
   abbrev pub Files-for : List Entry → Question → Type 0
@@ -112,9 +123,6 @@ module _ (next : Links) (size : ℕ) where
   -- a record, so that antt reads the act off the type
   pub record Does {A : Type 0} (pending : A → List Question) (Q : A → Memory → Type 0) (S : Refusal → Type 0) (act : Act A) (m : Memory) : Type 0 where
     pub holds : Comes-to pending Q S m (act m)
-
-  abbrev pub none-pending : {A : Type 0} → A → List Question
-  none-pending a = []
 
   comes-after : {A : Type 0} (pending : A → List Question) (Q : A → Memory → Type 0) (S : Refusal → Type 0) {m n : Memory} {qs : List Question} → Passes m qs n → (d : Done A) → Comes-to pending Q S n d → Comes-to pending Q S m (after qs d)
   unfolding acts
