@@ -17,4 +17,5 @@ pub mod Citations
 pub mod Remembering
 pub mod Passing
 pub mod Asking
+pub mod Sessions
 pub mod WorkedCases
