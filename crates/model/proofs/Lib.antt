@@ -18,4 +18,6 @@ pub mod Remembering
 pub mod Passing
 pub mod Asking
 pub mod Sessions
+pub mod QuietRuns
+pub mod RunLaws
 pub mod WorkedCases
