@@ -1,5 +1,5 @@
 -- Which entries a segment cites, in itself and in its use list, and that more use lists and entries leave this so. Assumes nothing.
-use Prim.Native.Nat.{ℕ, zero, suc, _+_, _<_, _≤_}
+use Prim.Native.Nat.{ℕ, suc, _+_, _<_, _≤_}
 use mathlib.Core.Path.{_≡_, refl, sym, _∙_, ap, subst}
 use mathlib.Core.Bool.{Bool, true, false}
 use mathlib.Core.List.{List, [], _∷_, _++_}
@@ -7,12 +7,10 @@ use native.Mathlib.Omega.{arith}
 use lib.Dec.{eqb}
 use lib.ListN.{length, getD}
 use Rattle.std.proofs.shelf.Lists.{length-append, getD-append-left, getD-push}
-use Rattle.std.proofs.shelf.Tests.{and-parts, eqb-true, cond-both}
+use Rattle.std.proofs.shelf.Tests.{and-parts, eqb-true}
 use Rattle.std.proofs.shelf.Ways.{tells}
 use Rattle.std.specs.shelf.Lists.{All}
-use Rattle.std.specs.declared.option.Option.{Option}
 use Rattle.std.specs.declared.option.Option.the-variants.{Some, None}
-use Rattle.model.specs.declared.items.Step.{Step}
 use Rattle.model.specs.Walks.{met}
 use Rattle.model.specs.Memory.{Segment, step, entry, mark, Entry, Use, uses-of}
 use Rattle.model.specs.Questions.{same-list, place-of}

@@ -1,5 +1,5 @@
 -- From one memory to a later one: what acts keep, and how acts one after another keep it. Assumes nothing.
-use Prim.Native.Nat.{ℕ, suc, _<_, _≤_}
+use Prim.Native.Nat.{ℕ, _<_, _≤_}
 use mathlib.Core.Path.{_≡_, refl, sym, _∙_, ap, subst}
 use mathlib.Core.Bool.{Bool, true, false}
 use mathlib.Core.List.{List, [], _∷_, _++_, append-assoc, append-nil}
@@ -14,7 +14,7 @@ use Rattle.model.specs.declared.items.Pair.{Pair}
 use Rattle.model.specs.Refusals.{Refusal}
 use Rattle.model.specs.Walks.{Links}
 use Rattle.model.specs.Paths.{Path, path}
-use Rattle.model.specs.Memory.{Segment, Entry, Memory, entry-at, is-mark}
+use Rattle.model.specs.Memory.{Entry, Memory, entry-at, is-mark}
 use Rattle.model.specs.Reading.{reads, segments-steps}
 use Rattle.model.specs.Acts.{Question, Act, Done, done, stop, after, and-then, _>>=_, _>>_, pure, refuse-with, need, memory, drop-pair, put-entry, put-use, acts}
 use Rattle.model.specs.RunLaws.{Each}

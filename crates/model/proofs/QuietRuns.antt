@@ -1,12 +1,12 @@
 -- Answers within a quiet stretch of a run are paths of the session at its end. Assumes nothing.
 use Prim.Native.Nat.{ℕ, _<_, _≤_}
 use mathlib.Core.Path.{_≡_, refl, sym, _∙_, ap, subst}
-use mathlib.Core.Bool.{Bool, true, false}
+use mathlib.Core.Bool.{true}
 use mathlib.Core.List.{List, [], _∷_}
 use mathlib.Core.Logic.{inl, inr}
 use native.Mathlib.Omega.{arith}
+use Rattle.std.proofs.shelf.Tests.{both-ways}
 use lib.Dec.{eqb}
-use lib.ListN.{length}
 use Rattle.std.proofs.shelf.Ways.{tells}
 use Rattle.std.specs.Options.{isSome}
 use Rattle.std.specs.declared.option.Option.{Option}
@@ -14,13 +14,12 @@ use Rattle.std.specs.declared.option.Option.the-variants.{Some, None}
 use Rattle.model.specs.declared.items.Pair.{Pair}
 use Rattle.model.specs.declared.items.Step.{Step}
 use Rattle.model.specs.Records.{Given}
-use Rattle.model.specs.Frames.{Frames}
 use Rattle.model.specs.Walks.{Links, links, met, Distinct, root-walk, last, check-eq}
 use Rattle.model.specs.Paths.{Path, path, join, some-if}
 use Rattle.model.specs.PathLaws.{Joins, meets, arrival, Walk-laws}
 use Rattle.model.specs.Memory.{Entry}
 use Rattle.model.specs.Format as F
-use Rattle.model.specs.Runs.{Session, links-of, Answer, number, same-enode, by-entry, refused, Turn, turn, Move, play, reached}
+use Rattle.model.specs.Runs.{Session, links-of, turn, Move, play, reached}
 use Rattle.model.specs.RunLaws.{size-of, Reads-as, Answered, here, later, Quiet}
 use Rattle.model.proofs.Members.{shares-from}
 use Rattle.model.proofs.Links.{link-within}
@@ -28,7 +27,7 @@ use Rattle.model.proofs.Walks.{Within, walk-has-first}
 use Rattle.model.proofs.Rooms.{room-start, walk-same-room}
 use Rattle.model.proofs.Paths.{first-walk}
 use Rattle.model.proofs.PathLaws.{walks-lawful}
-use Rattle.model.proofs.Passing.{Says-of, explains, marks}
+use Rattle.model.proofs.Passing.{explains, marks}
 use Rattle.model.proofs.Sessions.{In-order, Answer-says, Asked, ask-asked, play-goes-on}
 
 -- more enodes change no path
@@ -49,9 +48,9 @@ joins-itself gs [] x j d = refl
 joins-itself gs (s ∷ ss) x j d =
     let again : met x (meets gs (arrival gs s) ss) ≡ true = joins-met gs ss (arrival gs s) x (j .2) in
     let once = d .0 in
-    absurd (let z : _≡_ {A = Bool} true false = sym again ∙ once in let y : _≡_ {A = ℕ} 0 1 = cc in omega arith)
+    absurd (both-ways _ once again)
 
-pub there-is : {A : Type 0} (o : Option A) → isSome o ≡ true → (a : A) × (o ≡ Some a)
+there-is : {A : Type 0} (o : Option A) → isSome o ≡ true → (a : A) × (o ≡ Some a)
 there-is (Some a) h = (a, refl)
 there-is None h = absurd (let y : _≡_ {A = ℕ} 0 1 = cc in omega arith)
 
@@ -108,7 +107,7 @@ module _ (limit : ℕ) where
           let k = subst (Answer-says s p entries) answer (said .says) in
           elim (k .says) [
             | explains way is steps _ ↦ record { from-known = k .from-known; to-known = k .to-known; way = way; is = is; steps = read ∙ steps }
-            | marks _ marked ↦ absurd (let z : _≡_ {A = Bool} true false = sym marked ∙ plain in let y : _≡_ {A = ℕ} 0 1 = cc in omega arith)
+            | marks _ marked ↦ absurd (both-ways _ plain marked)
           ]
 
   -- and stays so while no given is accepted and no frame moved

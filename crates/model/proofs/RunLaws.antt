@@ -1,33 +1,27 @@
 -- The laws over whole runs. Assumes nothing.
-use Prim.Native.Nat.{ℕ, _<_, _≤_}
+use Prim.Native.Nat.{ℕ, _<_}
 use mathlib.Core.Path.{_≡_, refl, sym, _∙_, ap, subst}
-use mathlib.Core.Bool.{Bool, true, false}
+use mathlib.Core.Bool.{true, false}
 use mathlib.Core.List.{List, [], _∷_, _++_}
-use mathlib.Core.Logic.{_⊎_, inl, inr}
-use native.Mathlib.Omega.{arith}
-use lib.ListN.{length}
+use mathlib.Core.Logic.{inl, inr}
+use Rattle.std.proofs.shelf.Tests.{both-ways}
 use Rattle.std.specs.Options.{isSome}
-use Rattle.std.specs.declared.option.Option.{Option}
-use Rattle.std.specs.declared.option.Option.the-variants.{Some, None}
 use Rattle.model.specs.declared.items.Pair.{Pair}
-use Rattle.model.specs.declared.items.Step.{Step}
 use Rattle.model.specs.Records.{turned}
-use Rattle.model.specs.Refusals.{Refusal}
 use Rattle.model.specs.Walks.{check-eq}
 use Rattle.model.specs.Paths.{Path, path}
 use Rattle.model.specs.PathLaws.{Strikes}
 use Rattle.model.specs.Memory.{Entry, entry-at, is-mark}
-use Rattle.model.specs.Acts.{Question}
 use Rattle.model.specs.Format as F
 use Rattle.model.specs.Logging.{Room}
 use Rattle.model.specs.Questions.{Places}
 use Rattle.model.specs.Runs.{Scratch, Session, links-of, Answer, number, same-enode, by-entry, refused, Turn, turn, Move, play, reached}
-use Rattle.model.specs.RunLaws.{size-of, Explains, Files, Each, Unjoined, Else-accepted, start, Filed-for-good, Citations-earlier, Explanations-read, Filed-by-questions, Answers-turn, Answers-compose, Unjoined-exactly}
+use Rattle.model.specs.RunLaws.{size-of, Explains, Files, Unjoined, Else-accepted, start, Filed-for-good, Citations-earlier, Explanations-read, Filed-by-questions, Answers-turn, Answers-compose, Unjoined-exactly}
 use Rattle.model.proofs.Growth.{Longer, longer-self, longer-trans, More-uses, more-self, more-trans}
 use Rattle.model.proofs.Citations.{cite-earlier}
-use Rattle.model.proofs.Passing.{each-map, Says-of, explains, marks, Filed-for, Files-for, way-of}
+use Rattle.model.proofs.Passing.{each-map, explains, marks, Filed-for, Files-for}
 use Rattle.model.proofs.Sessions.{In-order, Goes-on, Answer-says, Asked, ask-asked, play-goes-on, reached-in-order, start-in-order}
-use Rattle.model.proofs.QuietRuns.{laws-of, check-itself, Path-is, answered-path}
+use Rattle.model.proofs.QuietRuns.{laws-of, check-itself, answered-path}
 
 -- more entries and more use lists
 grows : (limit : ℕ) (s : Session) (ms : List Move) → In-order s →
@@ -44,7 +38,7 @@ explained s p entries n h f plain = elim (f .answers .says) [
   | explains way is steps _ ↦
       let joins = laws-of s h .joins (p .from) (p .to) (f .answers .from-known) (f .answers .to-known) way is in
       record { way = way; is-path = is; steps = steps; count = f .count way is; ends-at = f .ends-at; joins = joins .0; once = joins .2 }
-  | marks _ marked ↦ absurd (let z : _≡_ {A = Bool} true false = sym marked ∙ plain in let y : _≡_ {A = ℕ} 0 1 = cc in omega arith)
+  | marks _ marked ↦ absurd (both-ways _ plain marked)
 ]
 
 module _ (limit : ℕ) (room : Room) (places : Places) (scratch : Scratch) where
@@ -98,7 +92,7 @@ module _ (limit : ℕ) (room : Room) (places : Places) (scratch : Scratch) where
     only-if-unjoined (inr (n, e, marked)) =
         let k = answer-is (by-entry n) e in
         elim (k .says) [
-          | explains _ _ _ plain ↦ absurd (let z : _≡_ {A = Bool} true false = sym marked ∙ plain in let y : _≡_ {A = ℕ} 0 1 = cc in omega arith)
+          | explains _ _ _ plain ↦ absurd (both-ways _ plain marked)
           | marks none _ ↦ sym (exists (k .from-known) (k .to-known)) ∙ ap isSome none
         ]
 
@@ -110,13 +104,13 @@ module _ (limit : ℕ) (room : Room) (places : Places) (scratch : Scratch) where
         go (same-enode n) e =
             let k = answer-is (same-enode n) e in
             let joined : check-eq (links-of (s .case)) (size-of s) a b ≡ true = subst (λ x. check-eq (links-of (s .case)) (size-of s) a x ≡ true) (k .1) (check-itself s a (k .0)) in
-            absurd (let z : _≡_ {A = Bool} true false = sym joined ∙ apart in let y : _≡_ {A = ℕ} 0 1 = cc in omega arith)
+            absurd (both-ways _ apart joined)
         go (by-entry n) e =
             let k = answer-is (by-entry n) e in
             elim (k .says) [
               | explains way is _ _ ↦
                   let found : isSome (path (links-of (s .case)) (size-of s) a b) ≡ true = ap isSome is in
-                  absurd (let z : _≡_ {A = Bool} true false = sym found ∙ exists (k .from-known) (k .to-known) ∙ apart in let y : _≡_ {A = ℕ} 0 1 = cc in omega arith)
+                  absurd (both-ways _ apart (sym (exists (k .from-known) (k .to-known)) ∙ found))
               | marks _ marked ↦ inr (n, e, marked)
             ]
         go (refused r) e = let k = accepted r e in inl (r, e, k .0, k .1)

@@ -1,30 +1,28 @@
 -- Sessions in order: the givens' ends are on the books and what is remembered is sound. Every call leaves them so. Assumes nothing.
-use Prim.Native.Nat.{ℕ, zero, suc, _+_, _<_, _≤_}
-use mathlib.Core.Path.{_≡_, refl, sym, _∙_, ap, subst}
+use Prim.Native.Nat.{ℕ, _<_, _≤_}
+use mathlib.Core.Path.{_≡_, refl, sym, subst}
 use mathlib.Core.Bool.{Bool, true, false}
 use mathlib.Core.List.{List, [], _∷_, _++_, append-nil}
 use mathlib.Core.Logic.{inl, inr}
 use native.Mathlib.Omega.{arith}
-use lib.Dec.{ltb, leb}
+use lib.Dec.{ltb}
 use lib.ListN.{length}
 use Rattle.std.proofs.shelf.Lists.{length-append, getD-append-left, getD-push}
 use Rattle.std.proofs.shelf.Tests.{cases-lt, ltb-true}
-use Rattle.std.specs.declared.option.Option.{Option}
 use Rattle.std.specs.declared.option.Option.the-variants.{Some, None}
 use Rattle.std.specs.declared.result.Result.{Result}
 use Rattle.std.specs.declared.result.Result.the-variants.{Ok, Err}
 use Rattle.model.specs.declared.items.Pair.{Pair}
 use Rattle.model.specs.declared.items.Step.{Step}
-use Rattle.model.specs.Records.{Enode, Kind, Given, no-given, given-at, args-of}
+use Rattle.model.specs.Records.{Enode, Kind, Given, no-given, args-of}
 use Rattle.std.proofs.shelf.Ways.{tells}
 use Rattle.model.specs.Refusals.{Refusal, short, asked}
 use Rattle.model.specs.Frames as frames
 use Rattle.model.specs.Frames.{Frames, current, log-frame}
-use Rattle.model.specs.Checks.{Check, require, and-then, unless-refused, all-known}
+use Rattle.model.specs.Checks.{Check, and-then, unless-refused, all-known}
 use Rattle.model.specs.Logging.{Room, Case, Outcome, pair-ends, given-checks, in-frame, new-enode, enode-added, new-given, on-frames}
 use Rattle.model.specs.Paths.{Path}
 use Rattle.model.specs.PathLaws.{Joins, Ends-known}
-use Rattle.model.specs.WalkCalls.{long-enough}
 use Rattle.model.specs.Memory.{Memory, Entry}
 use Rattle.model.specs.Acts.{Question, Done, done, stop}
 use Rattle.model.specs.Questions.{Places, Reply, same, on-file, filed, ask}
