@@ -132,8 +132,8 @@ module _ (next : Links) (size : ℕ) where
   comes-then : {A B : Type 0} (pending : B → List Question) (Q : A → Memory → Type 0) (R : B → Memory → Type 0) (S : Refusal → Type 0) {m : Memory} (d : Done A) (f : A → Act B) → Comes-to none-pending Q S m d → ((a : A) (n : Memory) (qs : List Question) → Passes m qs n → Q a n → Does pending R S (f a) n) → Comes-to pending R S m (and-then d f)
   unfolding acts
   comes-then pending Q R S {m} (done a n qs) f h k =
-        let p : Passes m qs n = subst (λ ts. Passes m ts n) (append-nil qs) (h .0) in
-        comes-after pending R S p (f a n) (k a n qs p (h .1) .holds)
+      let p : Passes m qs n = subst (λ ts. Passes m ts n) (append-nil qs) (h .0) in
+      comes-after pending R S p (f a n) (k a n qs p (h .1) .holds)
   comes-then pending Q R S {m} (stop r n qs) f h k = h
 
   module _ {A B : Type 0} {pending : B → List Question} {Q : A → Memory → Type 0} {R : B → Memory → Type 0} {S : Refusal → Type 0} where
