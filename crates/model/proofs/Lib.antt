@@ -11,4 +11,14 @@ pub mod Strikes
 pub mod Confluence
 pub mod Paths
 pub mod PathLaws
+pub mod Growth
+pub mod ChainSteps
+pub mod Citations
+pub mod Remembering
+pub mod Passing
+pub mod Looks
+pub mod Asking
+pub mod Sessions
+pub mod QuietRuns
+pub mod RunLaws
 pub mod WorkedCases
