@@ -12,3 +12,4 @@ pub mod Confluence
 pub mod Paths
 pub mod PathLaws
 pub mod WorkedCases
+pub mod Fewest
