@@ -13,3 +13,5 @@ pub mod Paths
 pub mod PathLaws
 pub mod WorkedCases
 pub mod Fewest
+pub mod Traces
+pub mod Looks
