@@ -15,3 +15,4 @@ pub mod WorkedCases
 pub mod Fewest
 pub mod Traces
 pub mod Looks
+pub mod Shortest
