@@ -1,11 +1,11 @@
 -- Standing entries that are kept, and that the chain taken has the fewest segments. Assumes nothing.
 use Prim.Native.Nat.{ℕ, zero, suc, _+_, _-_, _<_, _≤_}
 use mathlib.Core.Path.{_≡_, refl, sym, _∙_, ap, subst}
-use mathlib.Core.Bool.{Bool, true, false, _&&_}
+use mathlib.Core.Bool.{true, false, _&&_}
 use mathlib.Core.List.{List, [], _∷_, List·Memᴰ, List·Memᴰ·not-nil, List·Memᴰ·cases-cons}
 use mathlib.Core.Logic.{_⊎_, inl, inr}
 use native.Mathlib.Omega.{arith}
-use lib.Dec.{eqb, ltb, leb}
+use lib.Dec.{ltb}
 use lib.ListN.{length, getD}
 use Rattle.std.proofs.shelf.Tests.{cases-bool, and-parts, ltb-true}
 use Rattle.std.proofs.shelf.Ways.{tells}
@@ -45,11 +45,13 @@ best-least i later so-far [] = (omega arith, λ d m e. absurd (List·Memᴰ·not
 best-least i later so-far (x ∷ ds) =
     let ih = best-least i later so-far ds in
     let most : length (best i later so-far (x ∷ ds)) ≤ length (best i later so-far ds) = grind (arith, tells) in
-    let here : x .from ≡ i → length (best i later so-far (x ∷ ds)) ≤ suc (length (getD later (x .to - suc i) [])) = λ e. grind (arith, tells) in
-    (omega (arith, ih .0), λ d m e. elim (List·Memᴰ·cases-cons m) [
-      | inl q ↦ subst (λ (y : Edge). y .from ≡ i → length (best i later so-far (x ∷ ds)) ≤ suc (length (getD later (y .to - suc i) []))) (sym q) here e
-      | inr q ↦ omega (arith, ih .1 d q e)
-    ])
+    let here : x .from ≡ i → length (best i later so-far (x ∷ ds)) ≤ suc (length (getD later (x .to - suc i) [])) = λ e. grind (arith, tells) in (
+      omega (arith, ih .0),
+      λ d m e. elim (List·Memᴰ·cases-cons m) [
+        | inl q ↦ subst (λ (y : Edge). y .from ≡ i → length (best i later so-far (x ∷ ds)) ≤ suc (length (getD later (y .to - suc i) []))) (sym q) here e
+        | inr q ↦ omega (arith, ih .1 d q e)
+      ],
+    )
 
 first-is : (cs : List (List Segment)) → first-chain cs ≡ getD cs 0 []
 first-is [] = refl

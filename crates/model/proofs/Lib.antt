@@ -14,5 +14,8 @@ pub mod PathLaws
 pub mod WorkedCases
 pub mod Fewest
 pub mod Traces
+pub mod Ensured
+pub mod PathPlaces
 pub mod Looks
 pub mod Shortest
+pub mod ShortestFiled
