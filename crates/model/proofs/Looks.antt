@@ -94,7 +94,7 @@ module _ (before : Memory) (p : Pair) (way : Path) (laid : Laid p way) where
     pub more : (d : Edge) → List·Memᴰ d (f .edges) → List·Memᴰ d (g .edges)
     pub found : (a b n : ℕ) (d : Edge) → i ≤ a → a < k → Keepable before way a b n d → List·Memᴰ d (g .edges)
 
-  module _ (next : Links) (books : Records) (places : Places) (level : ℕ) where
+  module _ (next : Links) (records : Records) (places : Places) (level : ℕ) where
     -- at place j a look takes what stands, and `on` does the rest
     module _ (i j : ℕ) (li : i ≤ size) (lj : j ≤ size) (on : Found → Act Found)
         (rest : (f : Found) → f .spanning ≡ None → (m : Memory) → Intact m → ensured (Looked i (suc j) f) (on f m))
@@ -111,7 +111,7 @@ module _ (before : Memory) (p : Pair) (way : Path) (laid : Laid p way) where
           subst (λ y. held i j y ≡ Some d) (sym one) (ke .is-kept)
 
       look-added : (n : ℕ) (d : Edge) → stands (m .standing) (at i) (at j) ≡ Some n → held i j n ≡ Some d → (b : Bool) → spans size d ≡ b →
-          ensured (Looked i j f) (Q.added next books places level n f on d b m)
+          ensured (Looked i j f) (Q.added next records places level n f on d b m)
       unfolding acts
       look-added n d s ke true sp = record {
         intact = h;
@@ -129,7 +129,7 @@ module _ (before : Memory) (p : Pair) (way : Path) (laid : Laid p way) where
           List·Memᴰ·head (cc))
 
       look-judged : (n : ℕ) → stands (m .standing) (at i) (at j) ≡ Some n → (o : Option Edge) → held i j n ≡ o →
-          ensured (Looked i j f) (Q.judged next books places level size (at i) (at j) n f on o m)
+          ensured (Looked i j f) (Q.judged next records places level size (at i) (at j) n f on o m)
       unfolding acts
       look-judged n s None lost =
           ensured-after (Looked i j f) [] _ (goes-on f none _ (dropped-intact m h i j n li lj s lost) (λ d q. q) (λ k d kd.
@@ -137,7 +137,7 @@ module _ (before : Memory) (p : Pair) (way : Path) (laid : Laid p way) where
           absurd (let z : _≡_ {A = ℕ} 0 1 = cc in omega arith)))
       look-judged n s (Some d) ke = look-added n d s ke (spans size d) refl
 
-      look-standing : (o : Option ℕ) → stands (m .standing) (at i) (at j) ≡ o → ensured (Looked i j f) (Q.look-at next books places level (way .steps) i (at i) j (at j) f on o m)
+      look-standing : (o : Option ℕ) → stands (m .standing) (at i) (at j) ≡ o → ensured (Looked i j f) (Q.look-at next records places level (way .steps) i (at i) j (at j) f on o m)
       unfolding acts
       look-standing None s =
           goes-on f none m h (λ d q. q) (λ n d ke.
@@ -145,11 +145,11 @@ module _ (before : Memory) (p : Pair) (way : Path) (laid : Laid p way) where
           absurd (let z : _≡_ {A = ℕ} 0 1 = cc in omega arith))
       look-standing (Some n) s =
           ensured-after (Looked i j f) [] _
-          (subst (λ es. ensured (Looked i j f) (Q.judged next books places level size (at i) (at j) n f on (kept (reads es) (way .steps) i j n) m)) (sym (h .entries))
+          (subst (λ es. ensured (Looked i j f) (Q.judged next records places level size (at i) (at j) n f on (kept (reads es) (way .steps) i j n) m)) (sym (h .entries))
           (look-judged n s (held i j n) refl))
 
     look-finds : (i : ℕ) → i ≤ size → (j : ℕ) (xs : List ℕ) → drop j (way .enodes) ≡ xs → (f : Found) → f .spanning ≡ None → (m : Memory) → Intact m →
-        ensured (Looked i j f) (Q.look next books places level (way .steps) i (at i) j xs f m)
+        ensured (Looked i j f) (Q.look next records places level (way .steps) i (at i) j xs f m)
     unfolding acts
     look-finds i li j [] rest f none m h = record {
       intact = h;
@@ -159,25 +159,25 @@ module _ (before : Memory) (p : Pair) (way : Path) (laid : Laid p way) where
     }
     look-finds i li j (x ∷ xs) rest f none m h =
         let here = drop-here j (way .enodes) x xs rest in
-        subst (λ y. ensured (Looked i j f) (Q.look next books places level (way .steps) i (at i) j (y ∷ xs) f m)) (here .1)
+        subst (λ y. ensured (Looked i j f) (Q.look next records places level (way .steps) i (at i) j (y ∷ xs) f m)) (here .1)
         (ensured-after (Looked i j f) [] _
-        (look-standing i j li (omega (arith, here .0)) (Q.look next books places level (way .steps) i (at i) (suc j) xs) (look-finds i li (suc j) xs (here .2)) f none m h (stands (m .standing) (at i) (at j)) refl))
+        (look-standing i j li (omega (arith, here .0)) (Q.look next records places level (way .steps) i (at i) (suc j) xs) (look-finds i li (suc j) xs (here .2)) f none m h (stands (m .standing) (at i) (at j)) refl))
 
     -- a look at place i, whose enode is e
     pub look-at-place : (i e : ℕ) → at i ≡ e → i ≤ size → (f : Found) → f .spanning ≡ None → (m : Memory) → Intact m →
-        ensured (Looked i 0 f) (Q.look next books places level (way .steps) i e 0 (way .enodes) f m)
+        ensured (Looked i 0 f) (Q.look next records places level (way .steps) i e 0 (way .enodes) f m)
     look-at-place i e is li f none m h =
-        subst (λ y. ensured (Looked i 0 f) (Q.look next books places level (way .steps) i y 0 (way .enodes) f m)) is
+        subst (λ y. ensured (Looked i 0 f) (Q.look next records places level (way .steps) i y 0 (way .enodes) f m)) is
         (look-finds i li 0 (way .enodes) refl f none m h)
 
     pub looks-find : (k i : ℕ) → 0 < i → i + k ≤ size → (es : List ℕ) → drop i (way .enodes) ≡ es → (f : Found) → f .spanning ≡ None → (m : Memory) → Intact m →
-        ensured (Looked-on i (i + k) f) (Q.looks next books places level (way .steps) (way .enodes) k i es f m)
+        ensured (Looked-on i (i + k) f) (Q.looks next records places level (way .steps) (way .enodes) k i es f m)
     unfolding acts
     looks-find zero i low high es rest f none m h = record { intact = h; more = λ d q. q; found = λ a b n d le lt ke. absurd (omega arith) }
     looks-find (suc k) i low high [] rest f none m h = absurd (omega (arith, length-drop i (way .enodes), ap length rest))
     looks-find (suc k) i low high (e ∷ es) rest f none m h =
         let here = drop-here i (way .enodes) e es rest in
-        ensured-bind (Looked i 0 f) (Looked-on i (i + suc k) f) (Q.look next books places level (way .steps) i e 0 (way .enodes) f m) _ (look-at-place i e (here .1) (omega arith) f none m h) (λ g n l.
+        ensured-bind (Looked i 0 f) (Looked-on i (i + suc k) f) (Q.look next records places level (way .steps) i e 0 (way .enodes) f m) _ (look-at-place i e (here .1) (omega arith) f none m h) (λ g n l.
         let still = l .inside low (omega arith) in
         ensured-more (Looked-on (suc i) (suc i + k) g) (Looked-on i (i + suc k) f) _ (λ g′ n′ r. record {
           intact = r .intact;

@@ -5,6 +5,7 @@ use mathlib.Core.Bool.{Bool, true, false}
 use mathlib.Core.List.{List, [], _∷_}
 use native.Mathlib.Omega.{arith}
 use lib.ListN.{length, getD, drop}
+use Rattle.std.proofs.shelf.Tests.{both-ways}
 use Rattle.std.proofs.shelf.Ways.{tells}
 use Rattle.std.specs.declared.option.Option.the-variants.{Some, None}
 use Rattle.model.specs.declared.items.Pair.{Pair}
@@ -12,8 +13,8 @@ use Rattle.model.specs.declared.items.Step.{Step}
 use Rattle.model.specs.Records.{Given}
 use Rattle.model.specs.Walks.{met, Distinct, links, last}
 use Rattle.model.specs.Paths.{Path, path}
-use Rattle.model.proofs.Members.{met-head}
 use Rattle.model.specs.PathLaws.{arrival, Joins, meets}
+use Rattle.model.proofs.Members.{met-head}
 use Rattle.model.proofs.Links.{linked}
 use Rattle.model.proofs.Paths.{first-walk, second-walk, path-found, walks-meet, join-distinct, join-joins, join-meets}
 
@@ -23,11 +24,14 @@ met-at [] a lt = absurd (omega arith)
 met-at (x ∷ xs) zero lt = met-head x xs
 met-at (x ∷ xs) (suc a) lt = let ih = met-at xs a (omega arith) in grind (arith, tells, ih)
 
+not-met : (x : ℕ) (xs : List ℕ) (a : ℕ) → met x xs ≡ false → a < length xs → x ≡ getD xs a 0 → ⊥
+not-met x xs a gone lt e = both-ways (met x xs) gone (ap (λ y. met y xs) e ∙ met-at xs a lt)
+
 pub distinct-at : (xs : List ℕ) → Distinct xs → (a b : ℕ) → a < length xs → b < length xs → getD xs a 0 ≡ getD xs b 0 → a ≡ b
 distinct-at [] d a b la lb e = absurd (omega arith)
 distinct-at (x ∷ xs) d zero zero la lb e = refl
-distinct-at (x ∷ xs) d zero (suc b) la lb e = let m = met-at xs b (omega arith) in let n = d .0 in absurd (let z : true ≡ false = sym m ∙ ap (λ y. met y xs) (sym e) ∙ n in let y : _≡_ {A = ℕ} 0 1 = cc in omega arith)
-distinct-at (x ∷ xs) d (suc a) zero la lb e = let m = met-at xs a (omega arith) in let n = d .0 in absurd (let z : true ≡ false = sym m ∙ ap (λ y. met y xs) e ∙ n in let y : _≡_ {A = ℕ} 0 1 = cc in omega arith)
+distinct-at (x ∷ xs) d zero (suc b) la lb e = absurd (not-met x xs b (d .0) (omega arith) e)
+distinct-at (x ∷ xs) d (suc a) zero la lb e = absurd (not-met x xs a (d .0) (omega arith) (sym e))
 distinct-at (x ∷ xs) d (suc a) (suc b) la lb e = ap suc (distinct-at xs (d .1) a b (omega arith) (omega arith) e)
 
 -- the number at a place, and those after it

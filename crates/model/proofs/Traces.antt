@@ -87,103 +87,103 @@ module _ (R : Memory → Memory → List Question → Type 0) (k : Kept R) where
   read : {A : Type 0} {f : Memory → Act A} → ((m : Memory) → Keeps R (f m)) → Keeps R (memory >>= f)
   read h = bind recall h
 
-  module _ (next : Links) (books : Records) (places : Places) (level : ℕ) where
-    keep-file : (p : Pair) (e : Entry) → Keeps R (Q.file next books places level p e)
+  module _ (next : Links) (records : Records) (places : Places) (level : ℕ) where
+    keep-file : (p : Pair) (e : Entry) → Keeps R (Q.file next records places level p e)
     keep-file p e = read (λ m. then (test _ _) (then (test _ _) (then (test _ _) (bind (record { at = k .filed p e }) (λ n. idle _)))))
 
-    keep-judged : (size e x n : ℕ) (f : Found) (on : Found → Act Found) → ((g : Found) → Keeps R (on g)) → (o : Option Edge) → Keeps R (Q.judged next books places level size e x n f on o)
+    keep-judged : (size e x n : ℕ) (f : Found) (on : Found → Act Found) → ((g : Found) → Keeps R (on g)) → (o : Option Edge) → Keeps R (Q.judged next records places level size e x n f on o)
     keep-judged size e x n f on h None = then (record { at = k .dropped e x }) (h f)
     keep-judged size e x n f on h (Some d) = go (spans size d)
       where
-        go : (b : Bool) → Keeps R (Q.added next books places level n f on d b)
+        go : (b : Bool) → Keeps R (Q.added next records places level n f on d b)
         go true = idle _
         go false = h _
 
-    keep-look-at : (ss : List Step) (i e j x : ℕ) (f : Found) (on : Found → Act Found) → ((g : Found) → Keeps R (on g)) → (o : Option ℕ) → Keeps R (Q.look-at next books places level ss i e j x f on o)
+    keep-look-at : (ss : List Step) (i e j x : ℕ) (f : Found) (on : Found → Act Found) → ((g : Found) → Keeps R (on g)) → (o : Option ℕ) → Keeps R (Q.look-at next records places level ss i e j x f on o)
     keep-look-at ss i e j x f on h None = h f
     keep-look-at ss i e j x f on h (Some n) = read (λ m. keep-judged (length ss) e x n f on h (kept (reads (m .entries)) ss i j n))
 
-    keep-look : (ss : List Step) (i e j : ℕ) (xs : List ℕ) (f : Found) → Keeps R (Q.look next books places level ss i e j xs f)
+    keep-look : (ss : List Step) (i e j : ℕ) (xs : List ℕ) (f : Found) → Keeps R (Q.look next records places level ss i e j xs f)
     keep-look ss i e j [] f = idle f
     keep-look ss i e j (x ∷ xs) f = read (λ m. keep-look-at ss i e j x f _ (keep-look ss i e (suc j) xs) (stands (m .standing) e x))
 
-    keep-looks : (ss : List Step) (all : List ℕ) (n i : ℕ) (es : List ℕ) (f : Found) → Keeps R (Q.looks next books places level ss all n i es f)
+    keep-looks : (ss : List Step) (all : List ℕ) (n i : ℕ) (es : List ℕ) (f : Found) → Keeps R (Q.looks next records places level ss all n i es f)
     keep-looks ss all zero i es f = idle f
     keep-looks ss all (suc n) i [] f = idle f
     keep-looks ss all (suc n) i (e ∷ es) f = bind (keep-look ss i e 0 all f) (keep-looks ss all n (suc i) es)
 
     module _ (nested : Pair → Act Reply) (hn : (q : Pair) → Keeps R (nested q)) (p : Pair) where
-      keep-naming : (g j : ℕ) (q : Pair) → Keeps R (λ m. Q.naming next books places level g j (nested q m))
+      keep-naming : (g j : ℕ) (q : Pair) → Keeps R (λ m. Q.naming next records places level g j (nested q m))
       keep-naming g j q = record { at = λ m. go m (nested q m) (hn q .at m) }
         where
-          go : (m : Memory) (d : Done Reply) → R m (left-by d) (told-by d) → R m (left-by (Q.naming next books places level g j d)) (told-by (Q.naming next books places level g j d))
+          go : (m : Memory) (d : Done Reply) → R m (left-by d) (told-by d) → R m (left-by (Q.naming next records places level g j d)) (told-by (Q.naming next records places level g j d))
           go m (done a n qs) h = h
           go m (stop r n qs) h = h
 
-      keep-arguments : (g j : ℕ) (qs : List Pair) → Keeps R (Q.ask-arguments next books places level nested p g j qs)
+      keep-arguments : (g j : ℕ) (qs : List Pair) → Keeps R (Q.ask-arguments next records places level nested p g j qs)
       keep-arguments g j [] = idle _
       keep-arguments g j (q ∷ qs) = bind (keep-naming g j q) (λ r. bind (keep-arguments g (suc j) qs) (λ ns. idle _))
 
-      keep-new-use : (g : ℕ) (u : List ℕ) (o : Option ℕ) → Keeps R (Q.new-use next books places level nested p g u o)
+      keep-new-use : (g : ℕ) (u : List ℕ) (o : Option ℕ) → Keeps R (Q.new-use next records places level nested p g u o)
       keep-new-use g u (Some n) = idle n
       keep-new-use g u None = read (λ m. then (test _ _) (then (test _ _) (record { at = k .used g u })))
 
-      keep-settle-step : (s : Step) (qs : List Pair) → Keeps R (Q.settle-step next books places level nested p s qs)
+      keep-settle-step : (s : Step) (qs : List Pair) → Keeps R (Q.settle-step next records places level nested p s qs)
       keep-settle-step s [] = idle _
       keep-settle-step s (q ∷ qs) =
           bind (keep-arguments (s .given) 0 (q ∷ qs)) (λ u. bind (read (λ m. keep-new-use (s .given) u (place-of u 0 (uses-of (s .given) (m .uses))))) (λ n. idle _))
 
-      keep-settle-segment : (s : Segment) → Keeps R (Q.settle-segment next books places level nested p s)
-      keep-settle-segment (step s u) = keep-settle-step s (args-of (given-at (books .givens) (s .given) .kind))
+      keep-settle-segment : (s : Segment) → Keeps R (Q.settle-segment next records places level nested p s)
+      keep-settle-segment (step s u) = keep-settle-step s (args-of (given-at (records .givens) (s .given) .kind))
       keep-settle-segment (entry n w) = idle _
       keep-settle-segment (mark e) = idle _
 
-      keep-settle : (ss : List Segment) → Keeps R (Q.settle next books places level nested p ss)
+      keep-settle : (ss : List Segment) → Keeps R (Q.settle next records places level nested p ss)
       keep-settle [] = idle _
       keep-settle (s ∷ ss) = bind (keep-settle-segment s) (λ t. bind (keep-settle ss) (λ ts. idle _))
 
-      keep-settle-and-file : (n : ℕ) (ss : List Segment) → Keeps R (Q.settle-and-file next books places level nested p n ss)
+      keep-settle-and-file : (n : ℕ) (ss : List Segment) → Keeps R (Q.settle-and-file next records places level nested p n ss)
       keep-settle-and-file n ss = bind (keep-settle ss) (λ ts. keep-file p _)
 
-      keep-file-mark : Keeps R (Q.file-mark next books places level nested p)
+      keep-file-mark : Keeps R (Q.file-mark next records places level nested p)
       keep-file-mark = keep-file p (record { segments = mark (p .from) ∷ []; count = 0; last = p .to })
 
-      keep-if-mark : (n : ℕ) (b : Bool) → Keeps R (Q.if-mark next books places level nested p n b)
+      keep-if-mark : (n : ℕ) (b : Bool) → Keeps R (Q.if-mark next records places level nested p n b)
       keep-if-mark n true = idle _
       keep-if-mark n false = keep-file-mark
 
-      keep-marked : (o : Option ℕ) → Keeps R (Q.marked next books places level nested p o)
+      keep-marked : (o : Option ℕ) → Keeps R (Q.marked next records places level nested p o)
       keep-marked None = keep-file-mark
       keep-marked (Some n) = read (λ m. keep-if-mark n (is-mark (entry-at (m .entries) n .segments)))
 
-      keep-unjoined : (may : Bool) → Keeps R (Q.unjoined next books places level nested p may)
+      keep-unjoined : (may : Bool) → Keeps R (Q.unjoined next records places level nested p may)
       keep-unjoined false = halt _
       keep-unjoined true = read (λ m. keep-marked (stands (m .standing) (p .from) (p .to)))
 
-      keep-turn-round : (n e : ℕ) (o : Option ℕ) → Keeps R (Q.turn-round next books places level nested p n e o)
+      keep-turn-round : (n e : ℕ) (o : Option ℕ) → Keeps R (Q.turn-round next records places level nested p n e o)
       keep-turn-round n e (Some inner) = idle _
       keep-turn-round n e None = keep-settle-and-file n (entry e false ∷ [])
 
-      keep-from-end : (way : Path) (f : Found) (o : Option ℕ) → Keeps R (Q.from-end next books places level nested p way f o)
+      keep-from-end : (way : Path) (f : Found) (o : Option ℕ) → Keeps R (Q.from-end next records places level nested p way f o)
       keep-from-end way f (Some e) = read (λ m. keep-turn-round (length (way .steps)) e (turned-entry (entry-at (m .entries) e .segments)))
       keep-from-end way f None =
           bind (keep-looks (way .steps) (way .enodes) (length (way .steps) - 1) 1 (drop 1 (way .enodes)) f) (λ g. keep-settle-and-file (length (way .steps)) (chain (g .edges) (way .steps)))
 
-      keep-from-start : (way : Path) (f : Found) (o : Option ℕ) → Keeps R (Q.from-start next books places level nested p way f o)
+      keep-from-start : (way : Path) (f : Found) (o : Option ℕ) → Keeps R (Q.from-start next records places level nested p way f o)
       keep-from-start way f (Some e) = idle _
       keep-from-start way f None = bind (keep-look (way .steps) (length (way .steps)) (p .to) 0 (way .enodes) f) (λ g. keep-from-end way g (g .spanning))
 
-      keep-by-path : (may : Bool) (o : Option Path) → Keeps R (Q.by-path next books places level nested p may o)
+      keep-by-path : (may : Bool) (o : Option Path) → Keeps R (Q.by-path next records places level nested p may o)
       keep-by-path may None = keep-unjoined may
       keep-by-path may (Some way) = bind (keep-look (way .steps) 0 (p .from) 0 (way .enodes) none-found) (λ f. keep-from-start way f (f .spanning))
 
       -- answering keeps what each write and each nested question keeps
-      pub keep-answer : (may : Bool) → Keeps R (Q.answer next books places level nested p may)
-      keep-answer may = keep-by-path may (path next (length (books .enodes)) (p .from) (p .to))
+      pub keep-answer : (may : Bool) → Keeps R (Q.answer next records places level nested p may)
+      keep-answer may = keep-by-path may (path next (length (records .enodes)) (p .from) (p .to))
 
-    pub keep-checked : (p : Pair) (rest : Act Reply) → Keeps R rest → Keeps R (Q.checked next books places level p rest)
+    pub keep-checked : (p : Pair) (rest : Act Reply) → Keeps R rest → Keeps R (Q.checked next records places level p rest)
     keep-checked p rest h = then (test _ _) (then (test _ _) (go (eqb (p .from) (p .to))))
       where
-        go : (b : Bool) → Keeps R (Q.unless-same next books places level b p rest)
+        go : (b : Bool) → Keeps R (Q.unless-same next records places level b p rest)
         go true = idle _
         go false = h
