@@ -16,6 +16,6 @@ pub mod Fewest
 pub mod Traces
 pub mod Ensured
 pub mod PathPlaces
-pub mod Looks
+pub mod LooksFind
 pub mod Shortest
 pub mod ShortestFiled

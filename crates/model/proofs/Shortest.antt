@@ -22,7 +22,7 @@ use Rattle.model.specs.RunLaws.{Open-chain, ends, by-step, by-standing}
 use Rattle.model.proofs.Fewest.{Keepable, Has-all, chain-least}
 use Rattle.model.proofs.Ensured.{ensured, ensured-any, ensured-after, ensured-bind, Ensures, ensures-need, ensures-read}
 use Rattle.model.proofs.PathPlaces.{Laid}
-use Rattle.model.proofs.Looks.{Looked, Looked-on, look-at-place, looks-find}
+use Rattle.model.proofs.LooksFind.{Looked, Looked-on, look-at-place, looks-find}
 
 -- what an answer that files is: an entry on file, with no more segments than any list that C allows
 pub record Files-least (C : List Segment → Type 0) (r : Reply) (m : Memory) : Type 0 where
