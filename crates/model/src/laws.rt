@@ -3,7 +3,7 @@ ghost use Prim.Native.Nat.{ℕ};
 ghost use Rattle.model.specs.Logging.{Room};
 ghost use Rattle.model.specs.PathLaws.{Walks-lawful};
 ghost use Rattle.model.specs.Questions.{Places};
-ghost use Rattle.model.specs.RunLaws.{Filed-for-good, Citations-earlier, Explanations-read, Filed-by-questions, Unjoined-exactly, Answers-turn, Answers-compose};
+ghost use Rattle.model.specs.RunLaws.{Filed-for-good, Citations-earlier, Explanations-read, Filed-by-questions, Shortest-filed, Unjoined-exactly, Answers-turn, Answers-compose};
 ghost use Rattle.model.specs.Runs.{Scratch};
 ghost use Rattle.model.specs.WorkedCases.{Worked-cases};
 
@@ -66,6 +66,13 @@ pub fn answers_turn() -> u8
 // While no given is accepted and no frame moved, answers one after the other reduce to the answer for the outer pair, where there is no circle.
 pub fn answers_compose() -> u8
     ensures { λ _. ⌜ ((limit : ℕ) (room : Room) (places : Places) (scratch : Scratch) → Answers-compose limit room places scratch) ⌝ }
+{
+    0
+}
+
+// A question that files an explanation, nested or not, files one with as few segments as any chain open to it when it was put.
+pub fn shortest_filed() -> u8
+    ensures { λ _. ⌜ ((limit : ℕ) (room : Room) (places : Places) (scratch : Scratch) → Shortest-filed limit room places scratch) ⌝ }
 {
     0
 }
