@@ -4,7 +4,6 @@ use mathlib.Core.Path.{_≡_, refl, sym, _∙_, ap}
 use mathlib.Core.Bool.{true, false, cond}
 use mathlib.Core.List.{List, [], _∷_, reverse}
 use native.Mathlib.Omega.{arith}
-use native.Mathlib.Nat.{zero-add}
 use lib.Dec.{eqb}
 use lib.ListN.{length, getD, take, drop}
 use Rattle.std.proofs.shelf.Lists.{drop-more, getD-reverse, length-reverse, getD-take, getD-drop, length-take-le, length-drop, drop-all}
@@ -47,9 +46,6 @@ module _ (walks : List ℕ) (f t : ℕ) (fits : f + t ≤ length walks) where
       let place : f + (t - 1 - s) ≡ f + t - 1 - s = omega arith in
       getD-reverse (take t (drop f walks)) s 0 (omega (arith, long)) ∙ ap (λ n. getD (take t (drop f walks)) (n - 1 - s) 0) long ∙ getD-take t (drop f walks) (t - 1 - s) 0 (omega arith)
       ∙ getD-drop f walks (t - 1 - s) 0 ∙ ap (λ n. getD walks n 0) place
-
-  pub common-start : Common walks f t 0
-  common-start = (omega arith, omega arith, sym (zero-add (common xs ys)))
 
   module _ (s : ℕ) (c : Common walks f t s) (in-f : s < f) (in-t : s < t) where
     heads : common (drop s xs) (drop s ys) ≡ cond (eqb (getD walks (f - 1 - s) 0) (getD walks (f + t - 1 - s) 0)) (suc (common (drop (s + 1) xs) (drop (s + 1) ys))) 0

@@ -14,3 +14,4 @@ pub mod TwoWalks
 pub mod PathAnswers
 pub mod StepPlaces
 pub mod PathSteps
+pub mod WriteSteps

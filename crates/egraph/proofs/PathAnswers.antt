@@ -11,10 +11,11 @@ use Rattle.std.specs.Options.{Cases as BySome, isSome}
 use Rattle.std.specs.declared.option.Option.{Option}
 use Rattle.std.specs.declared.option.Option.the-variants.{Some, None}
 use Rattle.model.specs.declared.items.Pair.{Pair}
+use Rattle.model.specs.declared.items.Step.{Step}
 use Rattle.model.specs.Refusals.{Refusal, asked}
 use Rattle.model.specs.Checks.{Check, all-known, unless-refused}
 use Rattle.model.specs.Walks.{Links, check-eq}
-use Rattle.model.specs.WalkCalls.{cleared, long-enough, pair-checks, check-eq-call}
+use Rattle.model.specs.WalkCalls.{cleared, long-enough, pair-checks, check-eq-call, path-checks, path-call, told-path}
 use Rattle.model.specs.Paths.{path}
 use Rattle.egraph.specs.declared.path.SimplePath.{SimplePath}
 use Rattle.egraph.specs.SimplePath.{Found-path}
@@ -46,3 +47,9 @@ pub eq-answered : (next : Links) (size : ℕ) (p : Pair) (marks : List ℕ) (wal
     b ≡ check-eq next size (p .from) (p .to) → after ≡ cleared marks → _≡_ {A = Result Bool Refusal × List ℕ} (Ok b, after) (check-eq-call next size p marks walks)
 eq-answered next size p marks walks b after checks same clear =
     (λ i. (Ok (same i), clear i)) ∙ ap (λ c. unless-refused c marks (Ok (check-eq next size (p .from) (p .to)), cleared marks)) checks
+
+pub path-answered : (next : Links) (size : ℕ) (p : Pair) (marks : List ℕ) (walks : ℕ) (out : List Step) (count : Option ℕ) (after : List ℕ) (steps : List Step) → Ok tt ≡ asked p (path-checks size p (length marks) walks (length out)) →
+    after ≡ cleared marks → _≡_ {A = Option ℕ × List Step} (count, steps) (told-path (path next size (p .from) (p .to)) out) → _≡_ {A = Result (Option ℕ) Refusal × (List ℕ × List Step)} (Ok count, (after, steps)) (path-call next size p marks walks out)
+path-answered next size p marks walks out count after steps checks clear told =
+    let o = told-path (path next size (p .from) (p .to)) out in
+    (λ i. (Ok (told i .0), (clear i, told i .1))) ∙ ap (λ c. unless-refused c (marks, out) (Ok (o .0), (cleared marks, o .1))) checks

@@ -15,22 +15,19 @@ use Rattle.model.specs.WalkCalls.{placed}
 use Rattle.egraph.specs.SimplePath.{rising-steps, falling-steps}
 use Rattle.egraph.proofs.Places.{placed-none, placed-push}
 
-module _ {T : Type 0} (base : ℕ) (xs out : List T) (fits : base + length xs ≤ length out) where
-  pub none-placed : out ≡ placed base (take 0 xs) out
-  none-placed = sym (placed-none base out)
-
-  -- one place more
-  pub more-placed : (i : ℕ) (now : List T) (y : T) → i < length xs → now ≡ placed base (take i xs) out → getD xs i y ≡ y → set now (base + i) y ≡ placed base (take (i + 1) xs) out
-  more-placed i now y lt is at =
-      let long = length-take-le i xs (omega arith) in
+-- n places from `base` on, filled one after another
+module _ {T : Type 0} (base n : ℕ) (xs out : List T) (long : length xs ≡ n) where
+  pub more-placed : base + n ≤ length out → (i : ℕ) (now : List T) (y : T) → i < n → now ≡ placed base (take i xs) out → getD xs i y ≡ y → set now (base + i) y ≡ placed base (take (i + 1) xs) out
+  more-placed fits i now y lt is at =
+      let part = length-take-le i xs (omega arith) in
       ap (λ r. set r (base + i) y) is
-      ∙ ap (λ n. set (placed base (take i xs) out) (base + n) y) (sym long)
-      ∙ placed-push base (take i xs) out y (omega (arith, long))
+      ∙ ap (λ k. set (placed base (take i xs) out) (base + k) y) (sym part)
+      ∙ placed-push base (take i xs) out y (omega (arith, part))
       ∙ ap (λ z. placed base (take i xs ++ (z ∷ [])) out) (sym at)
-      ∙ ap (λ zs. placed base zs out) (sym (take-more xs i y lt))
+      ∙ ap (λ zs. placed base zs out) (sym (take-more xs i y (omega arith)))
 
-  pub all-placed : (n : ℕ) (now : List T) → length xs ≤ n → now ≡ placed base (take n xs) out → now ≡ placed base xs out
-  all-placed n now le is = is ∙ ap (λ zs. placed base zs out) (take-all n xs le)
+  pub all-placed : (i : ℕ) (now : List T) → n ≤ i → now ≡ placed base (take i xs) out → now ≡ placed base xs out
+  all-placed i now le is = is ∙ ap (λ zs. placed base zs out) (take-all i xs (omega arith))
 
 module _ (next : Links) (es : List ℕ) where
   pub rising-long : length (rising-steps next es) ≡ length es

@@ -131,15 +131,6 @@ module _ (next : Links) (size : ℕ) (p : Pair) (in-f : p .from < size) (in-t : 
 
   -- the same of what the code holds after the first walk
   module _ (n : ℕ) (out : List ℕ) (is : n ≡ length F) (wrote : out ≡ once) where
-    pub first-some : 1 ≤ n
-    first-some = omega (arith, is, walk-some next size None (p .from) in-f)
-
-    pub first-few : n ≤ size
-    first-few = omega (arith, is, walk-few next size None (p .from) in-f)
-
-    pub first-long : length out ≡ length before
-    first-long = ap length wrote ∙ once-long
-
     pub root-is : getD out (n - 1) 0 ≡ last (p .from) F
     root-is = (λ i. getD (wrote i) (is i - 1) 0) ∙ first-end
 
@@ -150,12 +141,6 @@ module _ (next : Links) (size : ℕ) (p : Pair) (in-f : p .from < size) (in-t : 
 
       second-wrote : out′ ≡ twice
       second-wrote = wrote′ ∙ (λ i. placed (is i) (root-walk next size (Some (root-is i)) (p .to) .enodes) (wrote i))
-
-      pub second-some : 1 ≤ m
-      second-some = omega (arith, second-is, walk-some next size (Some (last (p .from) F)) (p .to) in-t)
-
-      pub both-within : n + m ≤ length out′
-      both-within = omega (arith, is, second-is, ap length second-wrote, both-fit)
 
       end-is : getD out′ (n + m - 1) 0 ≡ last (p .to) T
       end-is = (λ i. getD (second-wrote i) (is i + second-is i - 1) 0) ∙ second-end

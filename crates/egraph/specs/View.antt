@@ -8,6 +8,7 @@ use denote.Ref.{now}
 use Rattle.model.specs.Records as M
 use Rattle.model.specs.Records.{arg-count}
 use Rattle.model.specs.Frames.{Frames}
+use Rattle.model.specs.Walks.{Links, links}
 use Rattle.model.specs.Logging.{Case}
 use Rattle.model.specs.PathLaws.{Ends-known}
 use Rattle.model.specs.Refusals.{full}
@@ -20,6 +21,11 @@ use Rattle.egraph.specs.Records.{records-of, givens-of, Listed, Headed, Ranged
 abbrev pub given-list : Records → List M.Given
 given-list t = givens-of (listed (t .arguments)) (listed (t .givens))
 
+-- the links that the givens have, by the frames that count
+abbrev pub links-in : Frames → Records → Links
+links-in m t = links (m .counts) (given-list t)
+
+-- how many enodes are on the books
 abbrev pub size : Records → ℕ
 size t = length (listed (t .enodes))
 

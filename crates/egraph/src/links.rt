@@ -2,10 +2,9 @@
 ghost use mathlib.Core.Path.{_≡_};
 ghost use Prim.Native.Nat.{_<_};
 ghost use Rattle.model.specs.Refusals.{told};
-ghost use Rattle.model.specs.Walks.{links};
 ghost use Rattle.model.specs.Records.{oldest-from};
 ghost use Rattle.model.specs.Logging.{between, get-given};
-ghost use Rattle.egraph.specs.View.{given-list, records-in, size};
+ghost use Rattle.egraph.specs.View.{given-list, links-in, records-in, size};
 use crate::egraph::EGraph;
 use frames::rule::FrameRule;
 use model::error::Fault;
@@ -15,7 +14,7 @@ impl<'a, R: FrameRule> EGraph<'a, R> {
     // The newest given of the enode whose frame counts.
     pub(crate) fn link(&self, enode: u32) -> Option<Link>
         requires { ⌜ enode < size (now self .records) ⌝ }
-        ensures { λ r. ⌜ r ≡ links (R·FrameRule .means (now (self .entry) .rule) .counts) (given-list (now (self .entry) .records)) enode ⌝ }
+        ensures { λ r. ⌜ r ≡ links-in (R·FrameRule .means (now (self .entry) .rule)) (now (self .entry) .records) enode ⌝ }
     {
         let mut next = self.records.enodes.rows[enode as usize].newest;
         while let Some(number) = next {

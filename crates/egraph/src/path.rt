@@ -4,12 +4,11 @@ ghost use Prim.Native.Nat.{_+_, _*_, _<_, _≤_};
 ghost use lib.ListN.{length};
 ghost use Rattle.std.specs.Options.{Cases as BySome};
 ghost use Rattle.std.specs.declared.option.Option.the-variants.{Some, None};
-ghost use Rattle.model.specs.Walks.{links};
 ghost use Rattle.model.specs.Paths.{path, shared};
 ghost use Rattle.model.specs.Refusals.{told};
 ghost use Rattle.model.specs.WalkCalls.{cleared, pair-checks, path-checks, check-eq-call, path-call, told-path};
 ghost use Rattle.model.specs.PathLaws.{Walk-laws};
-ghost use Rattle.egraph.specs.View.{given-list, size};
+ghost use Rattle.egraph.specs.View.{given-list, links-in, size};
 ghost use Rattle.egraph.specs.SimplePath.{first-part, second-part, Found-path};
 use crate::checks::check_length;
 use crate::egraph::EGraph;
@@ -46,7 +45,7 @@ impl<'a, R: FrameRule> EGraph<'a, R> {
         requires to { ⌜ pair .to < size (now self .records) ⌝ }
         requires bytes { ⌜ size (now self .records) ≤ length (now marks) ⌝ }
         requires places { ⌜ 2 * size (now self .records) ≤ length (now walks) ⌝ }
-        ensures found { λ r. ⌜ BySome r (path (links (R·FrameRule .means (now (self .entry) .rule) .counts) (given-list (now (self .entry) .records))) (size (now (self .entry) .records)) (pair .from) (pair .to) ≡ None) (Found-path (links (R·FrameRule .means (now (self .entry) .rule) .counts) (given-list (now (self .entry) .records))) (size (now (self .entry) .records)) pair (now (walks .exit))) ⌝ }
+        ensures found { λ r. ⌜ BySome r (path (links-in (R·FrameRule .means (now (self .entry) .rule)) (now (self .entry) .records)) (size (now (self .entry) .records)) (pair .from) (pair .to) ≡ None) (Found-path (links-in (R·FrameRule .means (now (self .entry) .rule)) (now (self .entry) .records)) (size (now (self .entry) .records)) pair (now (walks .exit))) ⌝ }
         ensures marks { λ _. ⌜ now (marks .exit) ≡ cleared (now (marks .entry)) ⌝ }
     {
         let from = self.walk(pair.from, None, marks, walks, 0);
@@ -71,7 +70,7 @@ impl<'a, R: FrameRule> EGraph<'a, R> {
 
     // Whether the root walks of two enodes share one. `marks` and `walks` are scratch.
     pub fn check_eq(&self, from: u32, to: u32, marks: &mut [u8], walks: &mut [u32]) -> Result<bool, Fault>
-        ensures outcome { λ r. ⌜ (told r, now (marks .exit)) ≡ check-eq-call (links (R·FrameRule .means (now (self .entry) .rule) .counts) (given-list (now (self .entry) .records))) (size (now (self .entry) .records)) (record { from = from; to = to }) (now (marks .entry)) (length (now (walks .entry))) ⌝ }
+        ensures outcome { λ r. ⌜ (told r, now (marks .exit)) ≡ check-eq-call (links-in (R·FrameRule .means (now (self .entry) .rule)) (now (self .entry) .records)) (size (now (self .entry) .records)) (record { from = from; to = to }) (now (marks .entry)) (length (now (walks .entry))) ⌝ }
         ensures laws { λ _. ⌜ Walk-laws (R·FrameRule .means (now (self .entry) .rule) .counts) (given-list (now (self .entry) .records)) (size (now (self .entry) .records)) ⌝ }
     {
         let pair = Pair { from, to };
@@ -83,9 +82,9 @@ impl<'a, R: FrameRule> EGraph<'a, R> {
     fn write_steps(&self, found: SimplePath, pair: Pair, walks: &[u32], steps: &mut [Step]) -> usize
         requires from { ⌜ pair .from < size (now self .records) ⌝ }
         requires to { ⌜ pair .to < size (now self .records) ⌝ }
-        requires found { ⌜ Found-path (links (R·FrameRule .means (now self .rule) .counts) (given-list (now self .records))) (size (now self .records)) pair (now walks) found ⌝ }
+        requires found { ⌜ Found-path (links-in (R·FrameRule .means (now self .rule)) (now self .records)) (size (now self .records)) pair (now walks) found ⌝ }
         requires places { ⌜ size (now self .records) ≤ length (now steps) ⌝ }
-        ensures { λ r. ⌜ (Some r, now (steps .exit)) ≡ told-path (path (links (R·FrameRule .means (now (self .entry) .rule) .counts) (given-list (now (self .entry) .records))) (size (now (self .entry) .records)) (pair .from) (pair .to)) (now (steps .entry)) ⌝ }
+        ensures { λ r. ⌜ (Some r, now (steps .exit)) ≡ told-path (path (links-in (R·FrameRule .means (now (self .entry) .rule)) (now (self .entry) .records)) (size (now (self .entry) .records)) (pair .from) (pair .to)) (now (steps .entry)) ⌝ }
     {
         let SimplePath { from_to_root, to_to_root, shared } = found;
         let rising = from_to_root - shared;
@@ -108,7 +107,7 @@ impl<'a, R: FrameRule> EGraph<'a, R> {
 
     // How many steps the path of a pair has, which are written into `steps`; none where there is no path. `marks` and `walks` are scratch.
     pub fn path(&self, from: u32, to: u32, marks: &mut [u8], walks: &mut [u32], steps: &mut [Step]) -> Result<Option<usize>, Fault>
-        ensures outcome { λ r. ⌜ (told r, (now (marks .exit), now (steps .exit))) ≡ path-call (links (R·FrameRule .means (now (self .entry) .rule) .counts) (given-list (now (self .entry) .records))) (size (now (self .entry) .records)) (record { from = from; to = to }) (now (marks .entry)) (length (now (walks .entry))) (now (steps .entry)) ⌝ }
+        ensures outcome { λ r. ⌜ (told r, (now (marks .exit), now (steps .exit))) ≡ path-call (links-in (R·FrameRule .means (now (self .entry) .rule)) (now (self .entry) .records)) (size (now (self .entry) .records)) (record { from = from; to = to }) (now (marks .entry)) (length (now (walks .entry))) (now (steps .entry)) ⌝ }
         ensures laws { λ _. ⌜ Walk-laws (R·FrameRule .means (now (self .entry) .rule) .counts) (given-list (now (self .entry) .records)) (size (now (self .entry) .records)) ⌝ }
     {
         let pair = Pair { from, to };

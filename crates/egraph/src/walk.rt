@@ -3,7 +3,7 @@ ghost use mathlib.Core.Path.{_≡_};
 ghost use Prim.Native.Nat.{_+_, _<_, _≤_};
 ghost use lib.ListN.{length, replicate};
 ghost use Rattle.model.specs.Walks.{is-root, links, root-walk};
-ghost use Rattle.egraph.specs.View.{given-list, size};
+ghost use Rattle.egraph.specs.View.{given-list, links-in, size};
 ghost use Rattle.model.specs.Refusals.{told};
 ghost use Rattle.model.specs.WalkCalls.{placed, told-walk, walk-checks, path-to-root};
 ghost use Rattle.model.specs.PathLaws.{Walk-laws};
@@ -42,10 +42,10 @@ impl<'a, R: FrameRule> EGraph<'a, R> {
         requires known { ⌜ from < size (now self .records) ⌝ }
         requires bytes { ⌜ size (now self .records) ≤ length (now marks) ⌝ }
         requires places { ⌜ base + size (now self .records) ≤ length (now out) ⌝ }
-        ensures walk { λ r. ⌜ r ≡ told-walk (root-walk (links (R·FrameRule .means (now (self .entry) .rule) .counts) (given-list (now (self .entry) .records))) (size (now (self .entry) .records)) root from) ⌝ }
+        ensures walk { λ r. ⌜ r ≡ told-walk (root-walk (links-in (R·FrameRule .means (now (self .entry) .rule)) (now (self .entry) .records)) (size (now (self .entry) .records)) root from) ⌝ }
         ensures bounds { λ r. ⌜ (1 ≤ r .len) × (r .len ≤ size (now (self .entry) .records)) ⌝ }
         ensures marks { λ r. ⌜ now (marks .exit) ≡ replicate (length (now (marks .entry))) 0 ⌝ }
-        ensures out { λ r. ⌜ now (out .exit) ≡ placed base (root-walk (links (R·FrameRule .means (now (self .entry) .rule) .counts) (given-list (now (self .entry) .records))) (size (now (self .entry) .records)) root from .enodes) (now (out .entry)) ⌝ }
+        ensures out { λ r. ⌜ now (out .exit) ≡ placed base (root-walk (links-in (R·FrameRule .means (now (self .entry) .rule)) (now (self .entry) .records)) (size (now (self .entry) .records)) root from .enodes) (now (out .entry)) ⌝ }
     {
         marks.fill(0);
         let guard = Marks { bytes: marks };
@@ -82,7 +82,7 @@ impl<'a, R: FrameRule> EGraph<'a, R> {
 
     // The root walk from an enode, which ends at `root` where it is told one. Its enodes are written into `path`; `marks` is scratch.
     pub fn path_to_root(&self, from: u32, root: Option<u32>, marks: &mut [u8], path: &mut [u32]) -> Result<RootWalk, Fault>
-        ensures outcome { λ r. ⌜ (told r, (now (marks .exit), now (path .exit))) ≡ path-to-root (links (R·FrameRule .means (now (self .entry) .rule) .counts) (given-list (now (self .entry) .records))) (size (now (self .entry) .records)) from root (now (marks .entry)) (now (path .entry)) ⌝ }
+        ensures outcome { λ r. ⌜ (told r, (now (marks .exit), now (path .exit))) ≡ path-to-root (links-in (R·FrameRule .means (now (self .entry) .rule)) (now (self .entry) .records)) (size (now (self .entry) .records)) from root (now (marks .entry)) (now (path .entry)) ⌝ }
         ensures laws { λ _. ⌜ Walk-laws (R·FrameRule .means (now (self .entry) .rule) .counts) (given-list (now (self .entry) .records)) (size (now (self .entry) .records)) ⌝ }
     {
         self.check_walk(from, root, marks.len(), path.len())?;

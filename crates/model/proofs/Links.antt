@@ -56,9 +56,6 @@ module _ (test : Given → Bool) (gs : List Given) where
         rw here (newest-skip n k (omega arith) (λ j low high. fail j low (omega arith)))
   ]
 
-  pub newest-is : (n k : ℕ) → Newest n k → newest test gs n ≡ Some k
-  newest-is n k h = newest-skip n (suc k) (omega (arith, h .below)) (λ j low high. h .newer-fail j (omega arith) high) ∙ rw (h .passes)
-
 -- givens that are logged later change nothing below
 pub newest-append : (test : Given → Bool) (gs hs : List Given) (n : ℕ) → n ≤ length gs → newest test (gs ++ hs) n ≡ newest test gs n
 newest-append test gs hs zero le = refl
