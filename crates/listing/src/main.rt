@@ -8,7 +8,6 @@ use frames::every::Every;
 use frames::every::EveryRule;
 use frames::live::Live;
 use frames::live::LiveRule;
-use input::Log;
 use input::read_log;
 use run::run;
 use std::env;

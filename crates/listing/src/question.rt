@@ -1,4 +1,12 @@
 // Answers a question: the root walks of its two enodes, and the path between them.
+ghost use mathlib.Core.Path.{_≡_};
+ghost use mathlib.Core.List.{_++_};
+ghost use Prim.Native.Nat.{ℕ};
+ghost use Rattle.std.specs.Of.String.{string-bytes};
+ghost use Rattle.std.specs.Vec.{made};
+ghost use Rattle.egraph.specs.View.{links-in, size};
+ghost use Rattle.listing.specs.Question.{reply-text, question-text};
+ghost use Rattle.listing.specs.Answers.{shown, reply-shown, Stands};
 use crate::scratch::Scratch;
 use egraph::egraph::EGraph;
 use frames::rule::FrameRule;
@@ -28,7 +36,10 @@ fn find<R: FrameRule>(
     graph: &EGraph<'_, R>,
     pair: Pair,
     scratch: &mut Scratch,
-) -> Result<Answer, Fault> {
+) -> Result<Answer, Fault>
+    ensures stands { λ r. ⌜ made r Stands ⌝ }
+    ensures reply { λ r. ⌜ ((place : ℕ) → reply-shown pair (now (scratch .exit)) place r ≡ reply-text (links-in (R·FrameRule .means (now (graph .entry) .rule)) (now (graph .entry) .records)) (size (now (graph .entry) .records)) pair place) ⌝ }
+{
     let steps = graph.path(
         pair.from,
         pair.to,
@@ -59,12 +70,16 @@ fn show(
     pair: Pair,
     scratch: &Scratch,
     out: &mut String,
-) -> Result<(), AllocError> {
+) -> Result<(), AllocError>
+    requires { ⌜ Stands answer ⌝ }
+    ensures { λ r. ⌜ made r (λ _. string-bytes (now (out .exit)) ≡ string-bytes (now (out .entry)) ++ shown pair (now (scratch .entry)) answer) ⌝ }
+{
     let Answer::Walks { first, second, steps } = answer else {
         return same_line(out, pair.from);
     };
-    walk_line(out, &scratch.first[0..first.len], first.tells)?;
-    walk_line(out, &scratch.second[0..second.len], second.tells)?;
+    let (up, down) = (first.len, second.len);
+    walk_line(out, &scratch.first[0..up], first.tells)?;
+    walk_line(out, &scratch.second[0..down], second.tells)?;
     match steps {
         Some(len) => path_line(out, &scratch.steps[0..len]),
         None => no_path_line(out),
@@ -78,7 +93,9 @@ pub fn ask<R: FrameRule>(
     place: u32,
     scratch: &mut Scratch,
     out: &mut String,
-) -> Result<(), AllocError> {
+) -> Result<(), AllocError>
+    ensures { λ r. ⌜ made r (λ _. string-bytes (now (out .exit)) ≡ string-bytes (now (out .entry)) ++ question-text (links-in (R·FrameRule .means (now (graph .entry) .rule)) (now (graph .entry) .records)) (size (now (graph .entry) .records)) pair place) ⌝ }
+{
     ask_line(out, pair.from, pair.to)?;
     match find(graph, pair, scratch) {
         Ok(answer) => show(answer, pair, scratch, out),
