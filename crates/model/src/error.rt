@@ -1,7 +1,7 @@
 // Why a call is refused, and where in a question.
 ghost use mathlib.Core.Path.{_≡_};
 ghost use Rattle.std.specs.declared.option.Option.the-variants.{None};
-ghost use Rattle.model.specs.Refusals.{asked as asked-for, told};
+ghost use Rattle.model.specs.Refusals.{asked as asked-for, number-of, told};
 use crate::items::Argument;
 use crate::items::Pair;
 
@@ -23,6 +23,23 @@ pub enum Cause {
     OnlyBase,
     Short(usize),
     Unreadable(u32),
+}
+
+impl Cause {
+    // The number by which a refusal is told.
+    pub fn number(&self) -> u32
+        ensures { λ r. ⌜ r ≡ number-of (now (self .entry)) ⌝ }
+    {
+        match self {
+            Cause::UnknownEnode(_) => 1,
+            Cause::NotFirstEnd(_) => 3,
+            Cause::Full(_) => 4,
+            Cause::FrameLimit(_) => 7,
+            Cause::OnlyBase => 8,
+            Cause::Short(_) => 9,
+            Cause::Unreadable(_) => 10,
+        }
+    }
 }
 
 // One fault type for every layer: the cause, the pair that was asked for, how deep its question was nested, and the argument of the outermost question that it came from.
