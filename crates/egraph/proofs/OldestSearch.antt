@@ -1,6 +1,6 @@
 -- The search for the oldest given between two enodes. Assumes nothing.
 use Prim.Native.Nat.{ℕ, zero, suc, _+_, _<_, _≤_}
-use mathlib.Core.Path.{_≡_, refl, sym, _∙_, ap, subst}
+use mathlib.Core.Path.{_≡_, refl, sym, _∙_, ap}
 use mathlib.Core.Bool.{Bool, true, false, cond, _&&_}
 use mathlib.Core.List.{List, [], _∷_}
 use mathlib.Core.Logic.{inl, inr}
@@ -9,7 +9,7 @@ use native.Mathlib.Omega.{arith}
 use lib.Dec.{eqb}
 use lib.ListN.{length, getD, take}
 use Rattle.std.proofs.shelf.Lists.{take-all}
-use Rattle.std.proofs.shelf.Tests.{and-left, cases-bool, cases-eq, eq-eqb, ne-eqb}
+use Rattle.std.proofs.shelf.Tests.{and-left, cases-bool, cases-eq}
 use Rattle.std.specs.declared.option.Option.{Option}
 use Rattle.std.specs.declared.option.Option.the-variants.{Some, None}
 use Rattle.model.specs.Records.{Given, given-at, oldest-from}
@@ -88,7 +88,7 @@ module _ (t : Records) (limits : Within-limits t) (lists : In-lists t) (from to 
     left = ap (oldest-from 0 (between from to)) (sym (take-all (length (given-list t)) (given-list t) (omega arith))) ∙ sym (or-none (between from to) (oldest-from 0 (between from to) (take (length (given-list t)) (given-list t))));
   }
 
-  sought-older : (next oldest : Option ℕ) (s : Sought from to (given-list t) next oldest) (n : ℕ) → next ≡ Some n → Sought from to (given-list t) (row t limits n .older) (cond (eqb (row t limits n .to) to) (Some n) oldest)
+  pub sought-older : (next oldest : Option ℕ) (s : Sought from to (given-list t) next oldest) (n : ℕ) → next ≡ Some n → Sought from to (given-list t) (row t limits n .older) (cond (eqb (row t limits n .to) to) (Some n) oldest)
   sought-older next oldest s n q =
       let filed = found-filed t limits lists from next (s .bound) n (s .along) q in
       let test : eqb (given-at (given-list t) n .to) to ≡ eqb (row t limits n .to) to = ap (λ g. eqb (g .to) to) (given-row t limits n filed) in
@@ -101,10 +101,3 @@ module _ (t : Records) (limits : Within-limits t) (lists : In-lists t) (from to 
             ∙ or-keeps (oldest-from 0 (between from to) (take n (given-list t))) oldest n (eqb (given-at (given-list t) n .to) to)
             ∙ ap (λ b. or-else (oldest-from 0 (between from to) (take n (given-list t))) (cond b (Some n) oldest)) test;
       }
-
-  module _ (next oldest : Option ℕ) (s : Sought from to (given-list t) next oldest) (n : ℕ) (q : next ≡ Some n) where
-    pub sought-hit : row t limits n .to ≡ to → Sought from to (given-list t) (row t limits n .older) (Some n)
-    sought-hit h = subst (λ b. Sought from to (given-list t) (row t limits n .older) (cond b (Some n) oldest)) (eq-eqb (row t limits n .to) to h) (sought-older next oldest s n q)
-
-    pub sought-miss : (row t limits n .to ≡ to → ⊥) → Sought from to (given-list t) (row t limits n .older) oldest
-    sought-miss h = subst (λ b. Sought from to (given-list t) (row t limits n .older) (cond b (Some n) oldest)) (ne-eqb (row t limits n .to) to h) (sought-older next oldest s n q)

@@ -7,7 +7,7 @@ ghost use Rattle.model.specs.Explanations.{pairs-of};
 ghost use Rattle.model.specs.Records.{args-of};
 ghost use Rattle.model.specs.Explanations.{kind-of};
 ghost use Rattle.egraph.specs.Table.{listed, places};
-ghost use Rattle.egraph.specs.Filing.{Given-filed, Given-fits, row-kind};
+ghost use Rattle.egraph.specs.Filing.{Given-filed, Given-fits, row-kind, with-newest};
 use crate::enode::ENode;
 use crate::equality::Given;
 use crate::equality::Kind;
@@ -45,6 +45,13 @@ fn kind_at(start: u32, expl: EqualityExpl<'_>) -> Kind
     }
 }
 
+// The enode's record, with that given as the newest under it.
+fn headed(enode: ENode, number: u32) -> ENode
+    ensures { λ r. ⌜ r ≡ with-newest enode number ⌝ }
+{
+    ENode { owner: enode.owner, frame: enode.frame, newest: Some(number) }
+}
+
 impl Records<'_> {
     // Files the given, and answers its number.
     pub(crate) fn file_given(&mut self, expl: EqualityExpl<'_>, frame: u32) -> u32
@@ -58,7 +65,7 @@ impl Records<'_> {
         let kind = kind_at(self.arguments.len as u32, expl);
         self.givens.push(Given { from: expl.from(), to: expl.to(), frame, kind, older: enode.newest });
         push_pairs(&mut self.arguments, expl.arg_eqs());
-        self.enodes.put(under, ENode { owner: enode.owner, frame: enode.frame, newest: Some(number) });
+        self.enodes.put(under, headed(enode, number));
         number
     }
 }

@@ -1,13 +1,14 @@
+// The records of a case and its equality graph: logging, links, root walks and paths.
 mod checks;
 pub mod egraph;
 pub mod enode;
 pub mod equality;
 mod filing;
-pub mod links;
-pub mod logging;
-pub mod path;
-pub mod records;
-pub mod stack;
+mod links;
+mod logging;
+mod path;
+mod records;
+mod stack;
 mod steps;
-pub mod table;
-pub mod walk;
+mod table;
+mod walk;

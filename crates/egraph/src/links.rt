@@ -1,16 +1,33 @@
 // An enode's link, and the oldest given between two enodes.
 ghost use mathlib.Core.Path.{_≡_};
+ghost use mathlib.Core.Bool.{cond};
 ghost use Prim.Native.Nat.{_<_};
+ghost use Rattle.std.specs.declared.option.Option.the-variants.{Some};
 ghost use Rattle.model.specs.Refusals.{told};
 ghost use Rattle.model.specs.Records.{oldest-from};
 ghost use Rattle.model.specs.Logging.{between, get-given};
 ghost use Rattle.egraph.specs.View.{given-list, links-in, records-in, size};
 use crate::egraph::EGraph;
+use crate::equality::Given;
 use frames::rule::FrameRule;
 use model::error::Fault;
 use model::items::Link;
 
+// What a search that goes back has found after one given more: that one, where it fits.
+fn found_back(found: Option<u32>, number: u32, fits: bool) -> Option<u32>
+    ensures { λ r. ⌜ r ≡ cond fits (Some number) found ⌝ }
+{
+    if fits { Some(number) } else { found }
+}
+
 impl<'a, R: FrameRule> EGraph<'a, R> {
+    // Whether the frame counts that a given was logged in.
+    fn counts(&self, given: Given) -> bool
+        ensures { λ r. ⌜ r ≡ R·FrameRule .means (now (self .entry) .rule) .counts (given .frame) ⌝ }
+    {
+        self.rule.counts(given.frame)
+    }
+
     // The newest given of the enode whose frame counts.
     pub(crate) fn link(&self, enode: u32) -> Option<Link>
         requires { ⌜ enode < size (now self .records) ⌝ }
@@ -19,7 +36,7 @@ impl<'a, R: FrameRule> EGraph<'a, R> {
         let mut next = self.records.enodes.rows[enode as usize].newest;
         while let Some(number) = next {
             let given = self.records.givens.rows[number as usize];
-            if self.rule.counts(given.frame) {
+            if self.counts(given) {
                 return Some(Link { given: number, to: given.to });
             }
             next = given.older;
@@ -36,9 +53,7 @@ impl<'a, R: FrameRule> EGraph<'a, R> {
         let mut next = self.records.enodes.rows[from as usize].newest;
         while let Some(number) = next {
             let given = self.records.givens.rows[number as usize];
-            if given.to == to {
-                oldest = Some(number);
-            }
+            oldest = found_back(oldest, number, given.to == to);
             next = given.older;
         }
         oldest

@@ -1,12 +1,14 @@
 // The path of a pair: up one enode's root walk to the first enode that both walks share, then down the other's.
 ghost use mathlib.Core.Path.{_≡_};
-ghost use Prim.Native.Nat.{_+_, _*_, _<_, _≤_};
+ghost use mathlib.Core.List.{[], _∷_};
+ghost use Prim.Native.Nat.{_+_, _-_, _*_, _<_, _≤_};
 ghost use lib.ListN.{length};
 ghost use Rattle.std.specs.Options.{Cases as BySome};
 ghost use Rattle.std.specs.declared.option.Option.the-variants.{Some, None};
 ghost use Rattle.model.specs.Paths.{path, shared};
 ghost use Rattle.model.specs.Refusals.{told};
-ghost use Rattle.model.specs.WalkCalls.{cleared, pair-checks, path-checks, check-eq-call, path-call, told-path};
+ghost use Rattle.model.specs.Checks.{all-known, and-then};
+ghost use Rattle.model.specs.WalkCalls.{cleared, long-enough, pair-checks, path-checks, check-eq-call, path-call, told-path};
 ghost use Rattle.model.specs.PathLaws.{Walk-laws};
 ghost use Rattle.egraph.specs.View.{given-list, links-in, size};
 ghost use Rattle.egraph.specs.SimplePath.{first-part, second-part, Found-path};
@@ -24,6 +26,24 @@ pub struct SimplePath {
     pub from_to_root: usize,
     pub to_to_root: usize,
     pub shared: usize,
+}
+
+impl SimplePath {
+    // How many steps go up, to the first enode of the common tail.
+    fn rising(&self) -> usize
+        requires { ⌜ now self .shared ≤ now self .«from_to_root» ⌝ }
+        ensures { λ r. ⌜ r ≡ now (self .entry) .«from_to_root» - now (self .entry) .shared ⌝ }
+    {
+        self.from_to_root - self.shared
+    }
+
+    // And how many go down from there.
+    fn falling(&self) -> usize
+        requires { ⌜ now self .shared ≤ now self .«to_to_root» ⌝ }
+        ensures { λ r. ⌜ r ≡ now (self .entry) .«to_to_root» - now (self .entry) .shared ⌝ }
+    {
+        self.to_to_root - self.shared
+    }
 }
 
 // The length of the common tail of the first `f` enodes and the `t` behind them.
@@ -58,14 +78,27 @@ impl<'a, R: FrameRule> EGraph<'a, R> {
         Some(SimplePath { from_to_root: from.len, to_to_root: to.len, shared })
     }
 
-    fn check_pair(&self, pair: Pair, marks: usize, walks: usize) -> Result<(), Fault>
-        ensures { λ r. ⌜ told r ≡ pair-checks (size (now (self .entry) .records)) pair marks walks ⌝ }
+    // Whether the scratch is long enough for the two walks of a pair.
+    fn check_scratch(&self, marks: usize, walks: usize) -> Result<(), Fault>
+        ensures { λ r. ⌜ told r ≡ and-then (long-enough (size (now (self .entry) .records)) marks) (long-enough (2 * size (now (self .entry) .records)) walks) ⌝ }
     {
         let size = self.records.enodes.len;
         check_length(size, marks)?;
-        check_length(2 * size, walks)?;
+        check_length(2 * size, walks)
+    }
+
+    fn check_known(&self, pair: Pair) -> Result<(), Fault>
+        ensures { λ r. ⌜ told r ≡ all-known (size (now (self .entry) .records)) (pair .from ∷ pair .to ∷ []) ⌝ }
+    {
         self.check_enode(pair.from)?;
         self.check_enode(pair.to)
+    }
+
+    fn check_pair(&self, pair: Pair, marks: usize, walks: usize) -> Result<(), Fault>
+        ensures { λ r. ⌜ told r ≡ pair-checks (size (now (self .entry) .records)) pair marks walks ⌝ }
+    {
+        self.check_scratch(marks, walks)?;
+        self.check_known(pair)
     }
 
     // Whether the root walks of two enodes share one. `marks` and `walks` are scratch.
@@ -86,23 +119,20 @@ impl<'a, R: FrameRule> EGraph<'a, R> {
         requires places { ⌜ size (now self .records) ≤ length (now steps) ⌝ }
         ensures { λ r. ⌜ (Some r, now (steps .exit)) ≡ told-path (path (links-in (R·FrameRule .means (now (self .entry) .rule)) (now (self .entry) .records)) (size (now (self .entry) .records)) (pair .from) (pair .to)) (now (steps .entry)) ⌝ }
     {
-        let SimplePath { from_to_root, to_to_root, shared } = found;
-        let rising = from_to_root - shared;
-        let falling = to_to_root - shared;
+        let rising = found.rising();
+        let falling = found.falling();
+        let second = found.from_to_root;
         self.rise(&walks[0..rising], steps, 0);
-        self.fall(&walks[from_to_root..from_to_root + falling], steps, rising);
+        self.fall(&walks[second..second + falling], steps, rising);
         rising + falling
     }
 
     fn check_path(&self, pair: Pair, marks: usize, walks: usize, steps: usize) -> Result<(), Fault>
         ensures { λ r. ⌜ told r ≡ path-checks (size (now (self .entry) .records)) pair marks walks steps ⌝ }
     {
-        let size = self.records.enodes.len;
-        check_length(size, marks)?;
-        check_length(2 * size, walks)?;
-        check_length(size, steps)?;
-        self.check_enode(pair.from)?;
-        self.check_enode(pair.to)
+        self.check_scratch(marks, walks)?;
+        check_length(self.records.enodes.len, steps)?;
+        self.check_known(pair)
     }
 
     // How many steps the path of a pair has, which are written into `steps`; none where there is no path. `marks` and `walks` are scratch.

@@ -45,6 +45,6 @@ impl<'a, R: FrameRule> EGraph<'a, R> {
     pub fn given_count(&self) -> usize
         ensures { λ r. ⌜ r ≡ length (given-list (now (self .entry) .records)) ⌝ }
     {
-        self.records.givens.len
+        self.records.givens_filed()
     }
 }

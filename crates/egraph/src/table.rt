@@ -14,7 +14,7 @@ pub struct Table<'a, T> {
 
 impl<'a, T: Copy> Table<'a, T> {
     // Whether that many records more go in, where there may be `limit` at the most.
-    pub fn has_room(&self, limit: usize, more: usize) -> bool
+    pub(crate) fn has_room(&self, limit: usize, more: usize) -> bool
         requires { ⌜ Fits limit (now self) ⌝ }
         ensures { λ r. ⌜ r ≡ leb (length (listed (now (self .entry))) + more) (min limit (places (now (self .entry)))) ⌝ }
     {
@@ -22,7 +22,7 @@ impl<'a, T: Copy> Table<'a, T> {
     }
 
     // Another record in the place of one on file.
-    pub fn put(&mut self, i: usize, row: T)
+    pub(crate) fn put(&mut self, i: usize, row: T)
         requires { ⌜ i < now self .len ⌝ ∗ ⌜ now self .len ≤ places (now self) ⌝ }
         ensures len { λ _. ⌜ now (self .exit) .len ≡ now (self .entry) .len ⌝ }
         ensures places { λ _. ⌜ places (now (self .exit)) ≡ places (now (self .entry)) ⌝ }
@@ -32,7 +32,7 @@ impl<'a, T: Copy> Table<'a, T> {
     }
 
     // One record more, at the end.
-    pub fn push(&mut self, row: T)
+    pub(crate) fn push(&mut self, row: T)
         requires { ⌜ now self .len < places (now self) ⌝ }
         ensures len { λ _. ⌜ now (self .exit) .len ≡ now (self .entry) .len + 1 ⌝ }
         ensures places { λ _. ⌜ places (now (self .exit)) ≡ places (now (self .entry)) ⌝ }

@@ -1,6 +1,5 @@
 // The table of open frames that both rules keep: the newest is last, and numbers are never handed out twice.
 ghost use mathlib.Core.Path.{_≡_};
-ghost use Rattle.std.specs.declared.option.Option.the-variants.{None};
 ghost use Rattle.model.specs.Frames.{base, is-open};
 ghost use Rattle.model.specs.Refusals.{told};
 ghost use Rattle.frames.specs.Tables.{Sound, counted-up, handed-out, last-of, table-close, table-log, table-open};
@@ -22,24 +21,12 @@ pub struct FrameTable {
     pub next: u32,
 }
 
-// A refusal outside of questions.
-fn refused(cause: Cause) -> Fault
-    ensures { λ r. ⌜ r ≡ record { cause = cause; pair = None; level = 0; argument = None } ⌝ }
-{
-    Fault {
-        cause,
-        pair: None,
-        level: 0,
-        argument: None,
-    }
-}
-
 // One given more under the frame, where its count has room.
 fn count_up(frame: &mut Frame) -> Result<u32, Fault>
     ensures { λ r. ⌜ (told r, now (frame .exit)) ≡ counted-up (now (frame .entry)) ⌝ }
 {
     if frame.count >= MAX_COUNT {
-        return Err(refused(Cause::Full(TableName::FrameCount)));
+        return Err(Fault::new(Cause::Full(TableName::FrameCount)));
     }
     frame.count += 1;
     Ok(frame.number)
@@ -101,7 +88,7 @@ impl FrameTable {
         let len = self.len;
         let next = self.next;
         if len >= MAX_OPEN || next >= MAX_NUMBERS {
-            return Err(refused(Cause::FrameLimit(len as u32)));
+            return Err(Fault::new(Cause::FrameLimit(len as u32)));
         }
         self.frames[len] = Frame {
             number: next,
@@ -126,7 +113,7 @@ impl FrameTable {
     {
         let len = self.len;
         if len <= 1 {
-            return Err(refused(Cause::OnlyBase));
+            return Err(Fault::new(Cause::OnlyBase));
         }
         let count = self.frames[len - 1].count;
         self.len = len - 1;

@@ -1,6 +1,7 @@
 // What a given tells of itself.
 ghost use mathlib.Core.Path.{_≡_};
 ghost use mathlib.Core.List.{[], _∷_};
+ghost use Prim.Native.Nat.{_/_};
 ghost use lib.ListN.{length};
 ghost use Rattle.std.specs.Options.{Cases as BySome};
 ghost use Rattle.model.specs.Records.{args-of};
@@ -47,11 +48,18 @@ impl<'a> EqualityExpl<'a> {
     }
 }
 
+// How many pairs that many words make. An odd last word is in no pair.
+fn pairs_in(words: usize) -> usize
+    ensures { λ r. ⌜ r ≡ words / 2 ⌝ }
+{
+    words / 2
+}
+
 impl<'a> ArgPairs<'a> {
     pub fn len(self) -> usize
         ensures { λ r. ⌜ r ≡ length (pairs-of (now (self .entry .words))) ⌝ }
     {
-        self.words.len() / 2
+        pairs_in(self.words.len())
     }
 
     // The first pair and those behind it, if there is one.

@@ -1,7 +1,7 @@
 -- What is read is allowed, and stands there word for word.
-use Prim.Native.Nat.{ℕ, suc, _+_, _*_, _/_, _%_, _^_, _<_, _≤_}
-use mathlib.Core.Path.{_≡_, refl, ap, sym, subst, _∙_}
-use mathlib.Core.Bool.{Bool, true, false, cond, _&&_}
+use Prim.Native.Nat.{ℕ, suc, _+_, _/_, _%_, _^_, _<_, _≤_}
+use mathlib.Core.Path.{_≡_, refl, ap, sym, subst}
+use mathlib.Core.Bool.{cond, _&&_}
 use mathlib.Core.List.{List, [], _∷_}
 use native.Mathlib.Omega.{arith}
 use native.Mathlib.Numerals.{add-one}
@@ -13,8 +13,8 @@ use Rattle.std.proofs.shelf.Lists.{length-take-le}
 use Rattle.std.proofs.shelf.Bits.{shr-split, mod-below}
 use Rattle.std.proofs.shelf.Tests.{ltb-true, leb-true, eqb-true, and-parts, cond-both}
 use Rattle.model.specs.Records.{Kind, Literal, Theory, Unknown}
-use Rattle.model.specs.Format.{Call, enode, given, open-frame, close-frame, pair-words, head, given-head, words, Plain, All-plain, Allowed}
-use Rattle.wordlog.specs.Calls.{pairs-of}
+use Rattle.model.specs.Format.{Call, given, open-frame, close-frame, pair-words, head, given-head, words, Plain, All-plain, Allowed}
+use Rattle.model.specs.Explanations.{pairs-of}
 use Rattle.wordlog.specs.Reading.{Front, plain, some-if, all-plain, root-from, axiom-from, number-from, congruence-from, given-from, taking, given-front, ask-front, front-of, front, Accepts}
 use Rattle.wordlog.proofs.Plain.{plain-fact}
 use Rattle.wordlog.proofs.PairWords.{pair-words-length, words-of-pairs}

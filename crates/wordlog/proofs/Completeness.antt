@@ -1,19 +1,16 @@
 -- Each allowed call is read from its words.
 use Prim.Native.Nat.{ℕ, suc, _+_, _<_, _≤_, _^_}
 use mathlib.Core.Path.{_≡_, refl, ap, sym, _∙_}
-use mathlib.Core.Bool.{true}
 use mathlib.Core.List.{List, [], _∷_, _++_}
 use native.Mathlib.Omega.{arith}
-use lib.ListN.{length, take}
-use Rattle.std.specs.declared.option.Option.{Option}
+use lib.ListN.{length}
 use Rattle.std.specs.declared.option.Option.the-variants.{Some}
 use Rattle.std.proofs.shelf.Lists.{take-at, length-append}
 use Rattle.std.proofs.shelf.Ways.{tells}
 use Rattle.model.specs.declared.items.Pair.{Pair}
 use Rattle.model.specs.Records.{Kind, Root, Axiom, Literal, Theory, Unknown, Congruence}
 use Rattle.model.specs.Format.{Call, enode, given, open-frame, close-frame, ask, pair-words, given-head, words, Plain, All-plain, Allowed, Given-allowed}
-use Rattle.wordlog.specs.Calls.{pairs-of}
-use Rattle.wordlog.specs.Reading.{all-plain, given-from, given-front, front, Complete}
+use Rattle.wordlog.specs.Reading.{given-from, front, Complete}
 use Rattle.wordlog.proofs.Plain.{plain-test}
 use Rattle.wordlog.proofs.PairWords.{pair-words-length, pairs-of-words}
 use Rattle.wordlog.proofs.Heads.{front-at, given-at}

@@ -10,7 +10,7 @@ use Rattle.std.specs.declared.option.Option.the-variants.{Some}
 use Rattle.std.proofs.shelf.Ways.{tells}
 use Rattle.model.specs.Records.{Congruence}
 use Rattle.model.specs.Format.{Call, given}
-use Rattle.wordlog.specs.Calls.{pairs-of}
+use Rattle.model.specs.Explanations.{pairs-of}
 use Rattle.wordlog.specs.Reading.{all-plain, given-from, congruence-from, taking, given-front, front, front-of}
 
 pub congruence-reads : (ws : List ℕ) → 2 < length ws → (length ws - 2) % 2 ≡ 0 → congruence-from ws ≡ Some (given (getD ws 0 0) (getD ws 1 0) (Congruence (pairs-of (drop 2 ws))))

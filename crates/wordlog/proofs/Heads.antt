@@ -1,9 +1,9 @@
 -- A head word taken apart again.
-use Prim.Native.Nat.{ℕ, _+_, _*_, _/_, _%_, _^_, _<_}
-use mathlib.Core.Path.{_≡_, refl, _∙_}
+use Prim.Native.Nat.{ℕ, _+_, _*_, _^_, _<_}
+use mathlib.Core.Path.{_≡_, _∙_}
 use mathlib.Core.List.{List, _∷_}
 use native.Mathlib.Omega.{arith}
-use Rattle.std.proofs.shelf.Bits.{shr-high, mod-low, shr-split}
+use Rattle.std.proofs.shelf.Bits.{shr-high, mod-low}
 use Rattle.model.specs.Format.{head, given-head}
 use Rattle.wordlog.specs.Reading.{front, front-of, given-front}
 

@@ -6,7 +6,7 @@ use native.Mathlib.Omega.{arith}
 use lib.ListN.{length, take}
 use Rattle.model.specs.declared.items.Pair.{Pair}
 use Rattle.model.specs.Format.{pair-words}
-use Rattle.wordlog.specs.Calls.{pairs-of}
+use Rattle.model.specs.Explanations.{pairs-of}
 
 pub pair-words-length : (ps : List Pair) → length (pair-words ps) ≡ 2 * length ps
 pair-words-length [] = refl

@@ -11,7 +11,8 @@ use Rattle.std.specs.declared.option.Option.{Option}
 use Rattle.std.specs.declared.option.Option.the-variants.{Some, None}
 use Rattle.std.proofs.shelf.Lists.{places, same-lists}
 use Rattle.model.specs.Format.{pair-words, given-head, words, All-plain, Allowed}
-use Rattle.wordlog.specs.Calls.{pairs-of, congruence}
+use Rattle.wordlog.specs.Calls.{congruence}
+use Rattle.model.specs.Explanations.{pairs-of}
 use Rattle.wordlog.specs.Writing.{Puts, Writes}
 use Rattle.wordlog.proofs.PairWords.{pair-words-length}
 

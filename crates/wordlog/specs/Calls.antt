@@ -1,26 +1,16 @@
 -- The code's calls as the calls of the definitions. Assumes nothing.
 use Prim.Native.Nat.{ℕ, _+_, _*_}
-use mathlib.Core.Bool.{Bool, true, false, cond}
-use mathlib.Core.List.{List, [], _∷_}
-use denote.Ref.{now}
+use mathlib.Core.Bool.{Bool, cond}
+use mathlib.Core.List.{List}
 use Rattle.std.specs.declared.option.Option.{Option}
 use Rattle.std.specs.declared.option.Option.the-variants.{Some, None}
-use Rattle.model.specs.declared.items.Pair.{Pair}
-use Rattle.model.specs.declared.items.ArgPairs.{ArgPairs}
 use Rattle.model.specs.declared.items.EqualityExpl.{EqualityExpl}
-use Rattle.model.specs.declared.items.EqualityExpl.the-variants as expl
-use Rattle.model.specs.Records.{Kind}
-use Rattle.model.specs.Records as records
+use Rattle.model.specs.Records.{Congruence}
+use Rattle.model.specs.Explanations.{pairs-of, from-of, to-of, kind-of}
 use Rattle.model.specs.Format.{Call, enode, given, open-frame, close-frame, ask}
 use Rattle.wordlog.specs.declared.call.TransEqAllowed.{TransEqAllowed}
 use Rattle.wordlog.specs.declared.call.Call.{Call as CodeCall}
 use Rattle.wordlog.specs.declared.call.Call.the-variants.{Enode, Given, Open, Close, Ask}
-
--- two words a pair; an odd last word is in no pair
-abbrev pub pairs-of : List ℕ → List Pair
-pairs-of [] = []
-pairs-of (a ∷ []) = []
-pairs-of (a ∷ b ∷ ws) = record { from = a; to = b } ∷ pairs-of ws
 
 abbrev pub flag : Bool → ℕ
 flag b = cond b 1 0
@@ -28,16 +18,12 @@ flag b = cond b 1 0
 abbrev pub permission : TransEqAllowed → ℕ
 permission p = flag (p .«can_mismatch_initial») + 2 * flag (p .«can_mismatch_congr»)
 
+-- a congruence with the words of its arguments
 abbrev pub congruence : ℕ → ℕ → List ℕ → Call
-congruence a b ws = given a b (records.Congruence (pairs-of ws))
+congruence a b ws = given a b (Congruence (pairs-of ws))
 
 abbrev pub given-of : EqualityExpl → Call
-given-of (expl.Root e) = given e e records.Root
-given-of (expl.Literal a n b) = given a b (records.Literal n)
-given-of (expl.Congruence a ps b) = congruence a b (now (ps .words))
-given-of (expl.Theory a n b) = given a b (records.Theory n)
-given-of (expl.Axiom a b) = given a b records.Axiom
-given-of (expl.Unknown n a b) = given a b (records.Unknown n)
+given-of e = given (from-of e) (to-of e) (kind-of e)
 
 abbrev pub call-of : CodeCall → Call
 call-of (Enode owner) = enode owner

@@ -52,6 +52,7 @@ abbrev pub answer-as : Result (Option CodeCall) Fault → Result (Option Call) R
 answer-as (Ok c) = Ok (call-as c)
 answer-as (Err f) = Err (refusal-of f)
 
+-- the place behind a call is no further than the words go
 abbrev pub Within : Result (Option CodeCall × ℕ) Fault → ℕ → Type 0
 Within (Ok p) n = p .1 ≤ n
 Within (Err f) n = Unit {0}

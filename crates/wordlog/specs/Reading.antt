@@ -9,7 +9,7 @@ use Rattle.std.specs.declared.option.Option.{Option}
 use Rattle.std.specs.declared.option.Option.the-variants.{Some, None}
 use Rattle.model.specs.Records.{Kind, Root, Axiom, Literal, Theory, Unknown, Congruence}
 use Rattle.model.specs.Format.{Call, enode, given, open-frame, close-frame, ask, words, Allowed}
-use Rattle.wordlog.specs.Calls.{pairs-of}
+use Rattle.model.specs.Explanations.{pairs-of}
 
 -- a call, and how many words it takes
 abbrev pub Front : Type 0

@@ -3,7 +3,6 @@ ghost use denote.Ref.{now};
 ghost use mathlib.Core.Path.{_≡_};
 ghost use Prim.Native.Nat.{_≤_};
 ghost use lib.ListN.{length};
-ghost use Rattle.model.specs.Refusals.{refusal-of, unreadable as unreadable-at};
 ghost use Rattle.wordlog.specs.Calls.{front-as};
 ghost use Rattle.wordlog.specs.Reading.{front, Accepts, Complete};
 ghost use Rattle.wordlog.specs.Log.{next, next-as, Within, moved, answer-as, words-read, ragged-read};
@@ -38,31 +37,24 @@ pub struct Reader<'a> {
     ghost within: { at ≤ length (now words) },
 }
 
-fn unreadable(place: u32) -> Fault
-    ensures { λ r. ⌜ refusal-of r ≡ unreadable-at place ⌝ }
-{
-    Fault {
-        cause: Cause::Unreadable(place),
-        pair: None,
-        level: 0,
-        argument: None,
-    }
-}
-
 // The call at a place of the words, and the place behind it.
-fn call_at<'a>(words: &'a [u32], ragged: bool, at: usize) -> Result<(Option<Call<'a>>, usize), Fault>
+fn call_at<'a>(
+    words: &'a [u32],
+    ragged: bool,
+    at: usize,
+) -> Result<(Option<Call<'a>>, usize), Fault>
     requires { ⌜ at ≤ length (now words) ⌝ ∗ ⌜ length (now words) ≤ 16384 ⌝ }
     ensures is { λ r. ⌜ next-as r ≡ next (now (words .entry)) ragged at ⌝ }
     ensures within { λ r. ⌜ Within r (length (now (words .entry))) ⌝ }
 {
     if at == words.len() {
         if ragged {
-            return Err(unreadable(at as u32));
+            return Err(Fault::new(Cause::Unreadable(at as u32)));
         }
         return Ok((None, at));
     }
     let Some((call, taken)) = read_call(&words[at..]) else {
-        return Err(unreadable(at as u32));
+        return Err(Fault::new(Cause::Unreadable(at as u32)));
     };
     Ok((Some(call), at + taken))
 }

@@ -5,13 +5,14 @@ use native.Mathlib.Omega.{arith}
 use lib.ListN.{length}
 use Rattle.std.specs.declared.result.Result.the-variants.{Err}
 use Rattle.std.proofs.shelf.Lists.{take-rest, length-drop}
+use Rattle.model.specs.Refusals.{refusal-of}
 use Rattle.wordlog.proofs.Places.{next-is-none, next-is-ragged, next-at-call}
 use Rattle.wordlog.proofs.reader.call_at.Needs as need
 
 pub returns-then-ragged : need.returns-then-ragged
 returns-then-ragged c =
     record {
-      is = ap Err (c .unreadable .ensures) ∙ next-is-ragged (c .args .words .now) (c .args .ragged) (c .args .at) (omega arith) (c .if-ragged .taken);
+      is = ap (λ f. Err (refusal-of f)) (c .new .ensures) ∙ next-is-ragged (c .args .words .now) (c .args .ragged) (c .args .at) (omega arith) (c .if-ragged .taken);
       within = tt;
     }
 
@@ -26,7 +27,7 @@ pub returns-in-rest : need.returns-in-rest
 returns-in-rest c =
     let before : c .args .at < length (c .args .words .now) = omega arith in
     record {
-      is = ap Err (c .unreadable-in-rest .ensures) ∙ next-at-call (c .args .words .now) _ (c .args .ragged) (c .args .at) _ before (take-rest (c .args .words .now) (c .args .at)) (c .in-rest .ensures tt .is);
+      is = ap (λ f. Err (refusal-of f)) (c .new-in-rest .ensures) ∙ next-at-call (c .args .words .now) _ (c .args .ragged) (c .args .at) _ before (take-rest (c .args .words .now) (c .args .at)) (c .in-rest .ensures tt .is);
       within = tt;
     }
 

@@ -1,5 +1,5 @@
 -- No pair, too many words, or the words of the pairs behind the two ends.
-use Prim.Native.Nat.{_*_, _/_, _-_, _≤_}
+use Prim.Native.Nat.{_*_, _/_, _-_}
 use mathlib.Core.Path.{_≡_, refl, sym, ap, _∙_}
 use mathlib.Core.Logic.{inl, inr}
 use native.Mathlib.Omega.{arith}

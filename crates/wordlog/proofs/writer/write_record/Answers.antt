@@ -1,5 +1,5 @@
 -- Too few places, a word that is not plain, or the head and the words behind it.
-use mathlib.Core.Path.{refl, sym, _∙_}
+use mathlib.Core.Path.{refl, sym}
 use native.Mathlib.Omega.{arith}
 use Rattle.std.proofs.shelf.Lists.{length-append}
 use Rattle.wordlog.proofs.Plain.{plain-fact, plain-not, plain-append, plain-first, plain-second}

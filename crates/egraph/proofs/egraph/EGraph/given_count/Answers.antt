@@ -1,6 +1,8 @@
-use mathlib.Core.Path.{sym}
-use Rattle.egraph.proofs.GivenList.{given-count}
+use mathlib.Core.Path.{sym, _∙_}
+use Rattle.std.proofs.shelf.Lists.{length-map}
+use Rattle.egraph.specs.Table.{listed}
+use Rattle.egraph.specs.Records.{given-of}
 use Rattle.egraph.proofs.egraph.EGraph.given_count.Needs as need
 
 pub returns : need.returns
-returns g c = let s = c .args .self .now in sym (given-count (s .records) (s .«within_limits»))
+returns g c = let t = c .args .self .now .records in c .givens-filed .ensures ∙ sym (length-map (listed (t .givens)) (given-of (listed (t .arguments))))
