@@ -61,12 +61,14 @@ question-known size p marks walks steps h =
     let bytes = both-pass (long-enough size marks) _ tt (sym passed) in
     let places = both-pass (long-enough (2 * size) walks) _ tt (bytes .1) in
     let room = both-pass (long-enough size steps) _ tt (places .1) in
-    let first = first-known size (p .from) (p .to ∷ []) (sym (room .1)) in
-    (passed, record {
-      few = leb-true _ _ (required _ _ (bytes .0));
-      from-known = first .0;
-      to-known = first-known size (p .to) [] (first .1) .0;
-    })
+    let first = first-known size (p .from) (p .to ∷ []) (sym (room .1)) in (
+      passed,
+      record {
+        few = leb-true _ _ (required _ _ (bytes .0));
+        from-known = first .0;
+        to-known = first-known size (p .to) [] (first .1) .0;
+      },
+    )
 
 pub record Path-told (next : Links) (size : ℕ) (p : Pair) (out : List Step) (count : Option ℕ) (steps : List Step) : Type 0 where
   pub checks : path-checks size p 128 256 128 ≡ Ok tt

@@ -61,8 +61,8 @@ module _ (next : Links) (size : ℕ) (within : Within next size) where
         line = (λ i. walk-text (take (is i .len) (wrote i)) (is i .tells)) ∙ ap (λ es. walk-text es (told-walk w .tells)) (written-part next size root e low 0 out base-fits);
         end = here ∙ end;
         end-known =
-        subst (λ n. n < size) (sym (here ∙ getD-append-left (w .enodes) (drop (0 + length (w .enodes)) out) 0 (length (w .enodes) - 1) (omega (arith, some))))
-        (below-at size (w .enodes) (walk-below next root size size [] e within low) (length (w .enodes) - 1) (omega (arith, some)));
+            subst (λ n. n < size) (sym (here ∙ getD-append-left (w .enodes) (drop (0 + length (w .enodes)) out) 0 (length (w .enodes) - 1) (omega (arith, some))))
+            (below-at size (w .enodes) (walk-below next root size size [] e within low) (length (w .enodes) - 1) (omega (arith, some)));
       }
 
 -- the steps of a path that was told stand in front

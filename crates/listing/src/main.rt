@@ -3,6 +3,8 @@ mod input;
 mod question;
 mod run;
 mod scratch;
+#[cfg(test)]
+mod tests;
 
 use frames::every::Every;
 use frames::every::EveryRule;

@@ -52,12 +52,7 @@ fn find<R: FrameRule>(
     }
     let first = graph.path_to_root(pair.from, None, &mut scratch.marks, &mut scratch.first)?;
     let root = scratch.first[first.len - 1];
-    let second = graph.path_to_root(
-        pair.to,
-        Some(root),
-        &mut scratch.marks,
-        &mut scratch.second,
-    )?;
+    let second = graph.path_to_root(pair.to, Some(root), &mut scratch.marks, &mut scratch.second)?;
     Ok(Answer::Walks {
         first,
         second,
@@ -65,16 +60,16 @@ fn find<R: FrameRule>(
     })
 }
 
-fn show(
-    answer: Answer,
-    pair: Pair,
-    scratch: &Scratch,
-    out: &mut String,
-) -> Result<(), AllocError>
+fn show(answer: Answer, pair: Pair, scratch: &Scratch, out: &mut String) -> Result<(), AllocError>
     requires { ⌜ Stands answer ⌝ }
     ensures { λ r. ⌜ made r (λ _. string-bytes (now (out .exit)) ≡ string-bytes (now (out .entry)) ++ shown pair (now (scratch .entry)) answer) ⌝ }
 {
-    let Answer::Walks { first, second, steps } = answer else {
+    let Answer::Walks {
+        first,
+        second,
+        steps,
+    } = answer
+    else {
         return same_line(out, pair.from);
     };
     let (up, down) = (first.len, second.len);

@@ -50,5 +50,5 @@ returns g c =
     record {
       stands = (omega (arith, b .walk .few, b .told .known .few), omega (arith, v .few, b .told .known .few), b .few);
       reply = λ place. answer-shown next (size (t .records)) (c .args .pair) (c .in-Continue-first .first) (c .in-Continue-second .second) (c .path-to-root .last .path) (c .path-to-root-2 .last .path) _ (c .in-Continue-steps .steps) (c .path .last .steps) (s .steps) (c .if-pair .left) (b .walk) refl v (b .told .is)
-      ∙ ap (λ r. text-unless place r (answer-text next (size (t .records)) (c .args .pair))) (sym (b .told .checks));
+          ∙ ap (λ r. text-unless place r (answer-text next (size (t .records)) (c .args .pair))) (sym (b .told .checks));
     }
