@@ -126,9 +126,10 @@ module _ (t u : Records) (e : EqualityExpl) (frame : ℕ) (f : Given-filed t e f
   arguments-filed =
       let qs = listed (t .arguments) in
       let ps = args-of (X.kind-of e) in
-      let long : length (listed (u .arguments)) ≡ length qs + length ps = ap length (f .arguments) ∙ length-append qs ps in
-      (rw (f .givens, long) (push-each (λ k g. range-end (g .kind) ≤ length qs + length ps) (listed (t .givens)) (row-of t e frame) no-row (λ k lt. omega (arith, filed .0 k lt)) (range-new (length qs) e)),
-      ap arg-count list-more ∙ arg-count-push (given-list t) new ∙ ap (λ n. n + length ps) (filed .1) ∙ sym long)
+      let long : length (listed (u .arguments)) ≡ length qs + length ps = ap length (f .arguments) ∙ length-append qs ps in (
+        rw (f .givens, long) (push-each (λ k g. range-end (g .kind) ≤ length qs + length ps) (listed (t .givens)) (row-of t e frame) no-row (λ k lt. omega (arith, filed .0 k lt)) (range-new (length qs) e)),
+        ap arg-count list-more ∙ arg-count-push (given-list t) new ∙ ap (λ n. n + length ps) (filed .1) ∙ sym long,
+      )
 
   size-same : size u ≡ size t
   size-same = ap length (f .enodes) ∙ length-set (listed (t .enodes)) (from-of e) _

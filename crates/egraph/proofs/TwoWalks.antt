@@ -73,7 +73,6 @@ module _ (next : Links) (size : ℕ) (root : Option ℕ) (e : ℕ) (low : e < si
     pub written-length : length (placed base W out) ≡ length out
     written-length = placed-length base W out (omega (arith, walk-few))
 
-
 module _ (next : Links) (size : ℕ) (p : Pair) (in-f : p .from < size) (in-t : p .to < size) (before : List ℕ) (fits : 2 * size ≤ length before) where
   abbrev F : List ℕ
   F = walk-from next size p

@@ -23,14 +23,19 @@ pub struct EGraph<'a, R: FrameRule> {
 
 impl<'a, R: FrameRule> EGraph<'a, R> {
     // An empty case: nothing is on file, whatever the tables hold.
-    pub fn new(enodes: &'a mut [ENode], givens: &'a mut [Given], arguments: &'a mut [Pair], rule: R) -> EGraph<'a, R>
+    pub fn new(
+        enodes: &'a mut [ENode],
+        givens: &'a mut [Given],
+        arguments: &'a mut [Pair],
+        rule: R,
+    ) -> EGraph<'a, R>
         ensures { λ r. ⌜ case-of (R·FrameRule .means (r .rule)) (r .records) ≡ empty-case (record { enodes = length (now (enodes .entry)); givens = length (now (givens .entry)); arguments = length (now (arguments .entry)) }) (R·FrameRule .means rule) ⌝ }
     {
         EGraph {
             records: Records {
-                enodes: Table { rows: enodes, len: 0 },
-                givens: Table { rows: givens, len: 0 },
-                arguments: Table { rows: arguments, len: 0 },
+                enodes: Table::empty(enodes),
+                givens: Table::empty(givens),
+                arguments: Table::empty(arguments),
             },
             rule,
         }

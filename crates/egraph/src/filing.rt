@@ -38,7 +38,10 @@ fn kind_at(start: u32, expl: EqualityExpl<'_>) -> Kind
     match expl {
         EqualityExpl::Root { .. } => Kind::Root,
         EqualityExpl::Literal { eq, .. } => Kind::Literal(eq),
-        EqualityExpl::Congruence { arg_eqs, .. } => Kind::Congruence { start, len: arg_eqs.len() as u32 },
+        EqualityExpl::Congruence { arg_eqs, .. } => Kind::Congruence {
+            start,
+            len: arg_eqs.len() as u32,
+        },
         EqualityExpl::Theory { theory, .. } => Kind::Theory(theory),
         EqualityExpl::Axiom { .. } => Kind::Axiom,
         EqualityExpl::Unknown { kind, .. } => Kind::Unknown(kind),
@@ -49,7 +52,11 @@ fn kind_at(start: u32, expl: EqualityExpl<'_>) -> Kind
 fn headed(enode: ENode, number: u32) -> ENode
     ensures { λ r. ⌜ r ≡ with-newest enode number ⌝ }
 {
-    ENode { owner: enode.owner, frame: enode.frame, newest: Some(number) }
+    ENode {
+        owner: enode.owner,
+        frame: enode.frame,
+        newest: Some(number),
+    }
 }
 
 impl Records<'_> {
@@ -63,7 +70,13 @@ impl Records<'_> {
         let under = expl.from() as usize;
         let enode = self.enodes.rows[under];
         let kind = kind_at(self.arguments.len as u32, expl);
-        self.givens.push(Given { from: expl.from(), to: expl.to(), frame, kind, older: enode.newest });
+        self.givens.push(Given {
+            from: expl.from(),
+            to: expl.to(),
+            frame,
+            kind,
+            older: enode.newest,
+        });
         push_pairs(&mut self.arguments, expl.arg_eqs());
         self.enodes.put(under, headed(enode, number));
         number

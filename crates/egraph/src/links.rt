@@ -37,7 +37,10 @@ impl<'a, R: FrameRule> EGraph<'a, R> {
         while let Some(number) = next {
             let given = self.records.givens.rows[number as usize];
             if self.counts(given) {
-                return Some(Link { given: number, to: given.to });
+                return Some(Link {
+                    given: number,
+                    to: given.to,
+                });
             }
             next = given.older;
         }

@@ -24,7 +24,11 @@ impl<'a, R: FrameRule> EGraph<'a, R> {
         }
         let place = self.records.enodes.len as u32;
         let frame = self.rule.active_frame();
-        self.records.enodes.push(ENode { owner, frame, newest: None });
+        self.records.enodes.push(ENode {
+            owner,
+            frame,
+            newest: None,
+        });
         Ok(place)
     }
 

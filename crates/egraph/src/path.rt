@@ -60,7 +60,12 @@ fn common_tail(walks: &[u32], f: usize, t: usize) -> usize
 
 impl<'a, R: FrameRule> EGraph<'a, R> {
     // Walks from both enodes; there is a path where the walks end alike.
-    pub(crate) fn get_simple_path(&self, pair: Pair, marks: &mut [u8], walks: &mut [u32]) -> Option<SimplePath>
+    pub(crate) fn get_simple_path(
+        &self,
+        pair: Pair,
+        marks: &mut [u8],
+        walks: &mut [u32],
+    ) -> Option<SimplePath>
         requires from { ⌜ pair .from < size (now self .records) ⌝ }
         requires to { ⌜ pair .to < size (now self .records) ⌝ }
         requires bytes { ⌜ size (now self .records) ≤ length (now marks) ⌝ }
@@ -75,7 +80,11 @@ impl<'a, R: FrameRule> EGraph<'a, R> {
             return None;
         }
         let shared = common_tail(walks, from.len, to.len);
-        Some(SimplePath { from_to_root: from.len, to_to_root: to.len, shared })
+        Some(SimplePath {
+            from_to_root: from.len,
+            to_to_root: to.len,
+            shared,
+        })
     }
 
     // Whether the scratch is long enough for the two walks of a pair.
@@ -102,7 +111,13 @@ impl<'a, R: FrameRule> EGraph<'a, R> {
     }
 
     // Whether the root walks of two enodes share one. `marks` and `walks` are scratch.
-    pub fn check_eq(&self, from: u32, to: u32, marks: &mut [u8], walks: &mut [u32]) -> Result<bool, Fault>
+    pub fn check_eq(
+        &self,
+        from: u32,
+        to: u32,
+        marks: &mut [u8],
+        walks: &mut [u32],
+    ) -> Result<bool, Fault>
         ensures outcome { λ r. ⌜ (told r, now (marks .exit)) ≡ check-eq-call (links-in (R·FrameRule .means (now (self .entry) .rule)) (now (self .entry) .records)) (size (now (self .entry) .records)) (record { from = from; to = to }) (now (marks .entry)) (length (now (walks .entry))) ⌝ }
         ensures laws { λ _. ⌜ Walk-laws (R·FrameRule .means (now (self .entry) .rule) .counts) (given-list (now (self .entry) .records)) (size (now (self .entry) .records)) ⌝ }
     {
@@ -136,12 +151,22 @@ impl<'a, R: FrameRule> EGraph<'a, R> {
     }
 
     // How many steps the path of a pair has, which are written into `steps`; none where there is no path. `marks` and `walks` are scratch.
-    pub fn path(&self, from: u32, to: u32, marks: &mut [u8], walks: &mut [u32], steps: &mut [Step]) -> Result<Option<usize>, Fault>
+    pub fn path(
+        &self,
+        from: u32,
+        to: u32,
+        marks: &mut [u8],
+        walks: &mut [u32],
+        steps: &mut [Step],
+    ) -> Result<Option<usize>, Fault>
         ensures outcome { λ r. ⌜ (told r, (now (marks .exit), now (steps .exit))) ≡ path-call (links-in (R·FrameRule .means (now (self .entry) .rule)) (now (self .entry) .records)) (size (now (self .entry) .records)) (record { from = from; to = to }) (now (marks .entry)) (length (now (walks .entry))) (now (steps .entry)) ⌝ }
         ensures laws { λ _. ⌜ Walk-laws (R·FrameRule .means (now (self .entry) .rule) .counts) (given-list (now (self .entry) .records)) (size (now (self .entry) .records)) ⌝ }
     {
         let pair = Pair { from, to };
-        asked(pair, self.check_path(pair, marks.len(), walks.len(), steps.len()))?;
+        asked(
+            pair,
+            self.check_path(pair, marks.len(), walks.len(), steps.len()),
+        )?;
         let Some(found) = self.get_simple_path(pair, marks, walks) else {
             return Ok(None);
         };

@@ -31,7 +31,10 @@ impl<'a, R: FrameRule> EGraph<'a, R> {
         ensures { λ _. ⌜ now (steps .exit) ≡ placed base (rising-steps (links-in (R·FrameRule .means (now (self .entry) .rule)) (now (self .entry) .records)) (now (enodes .entry))) (now (steps .entry)) ⌝ }
     {
         for i in 0..enodes.len() {
-            steps[base + i] = Step { given: self.given_up(enodes[i]), forward: true };
+            steps[base + i] = Step {
+                given: self.given_up(enodes[i]),
+                forward: true,
+            };
         }
     }
 
@@ -43,7 +46,10 @@ impl<'a, R: FrameRule> EGraph<'a, R> {
     {
         let n = enodes.len();
         for i in 0..n {
-            steps[base + i] = Step { given: self.given_up(enodes[n - 1 - i]), forward: false };
+            steps[base + i] = Step {
+                given: self.given_up(enodes[n - 1 - i]),
+                forward: false,
+            };
         }
     }
 }

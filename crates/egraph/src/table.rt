@@ -13,6 +13,14 @@ pub struct Table<'a, T> {
 }
 
 impl<'a, T: Copy> Table<'a, T> {
+    // Nothing is on file, whatever the rows hold.
+    pub(crate) fn empty(rows: &'a mut [T]) -> Table<'a, T>
+        ensures len { λ r. ⌜ r .len ≡ 0 ⌝ }
+        ensures rows { λ r. ⌜ now (r .rows) ≡ now (rows .entry) ⌝ }
+    {
+        Table { rows, len: 0 }
+    }
+
     // Whether that many records more go in, where there may be `limit` at the most.
     pub(crate) fn has_room(&self, limit: usize, more: usize) -> bool
         requires { ⌜ Fits limit (now self) ⌝ }

@@ -38,7 +38,14 @@ fn is_root(root: Option<u32>, enode: u32) -> bool
 
 impl<'a, R: FrameRule> EGraph<'a, R> {
     // Writes the walk from `from` into `out`, from the place `base` on.
-    pub(crate) fn walk(&self, from: u32, root: Option<u32>, marks: &mut [u8], out: &mut [u32], base: usize) -> RootWalk
+    pub(crate) fn walk(
+        &self,
+        from: u32,
+        root: Option<u32>,
+        marks: &mut [u8],
+        out: &mut [u32],
+        base: usize,
+    ) -> RootWalk
         requires known { ⌜ from < size (now self .records) ⌝ }
         requires bytes { ⌜ size (now self .records) ≤ length (now marks) ⌝ }
         requires places { ⌜ base + size (now self .records) ≤ length (now out) ⌝ }
@@ -52,22 +59,40 @@ impl<'a, R: FrameRule> EGraph<'a, R> {
         let mut at = from;
         for len in 0..self.records.enodes.len {
             if guard.bytes[at as usize] != 0 {
-                return RootWalk { tells: Some(at), len };
+                return RootWalk {
+                    tells: Some(at),
+                    len,
+                };
             }
             guard.bytes[at as usize] = 1;
             out[base + len] = at;
             if is_root(root, at) {
-                return RootWalk { tells: Some(at), len: len + 1 };
+                return RootWalk {
+                    tells: Some(at),
+                    len: len + 1,
+                };
             }
             let Some(link) = self.link(at) else {
-                return RootWalk { tells: None, len: len + 1 };
+                return RootWalk {
+                    tells: None,
+                    len: len + 1,
+                };
             };
             at = link.to;
         }
-        RootWalk { tells: Some(at), len: self.records.enodes.len }
+        RootWalk {
+            tells: Some(at),
+            len: self.records.enodes.len,
+        }
     }
 
-    fn check_walk(&self, from: u32, root: Option<u32>, marks: usize, places: usize) -> Result<(), Fault>
+    fn check_walk(
+        &self,
+        from: u32,
+        root: Option<u32>,
+        marks: usize,
+        places: usize,
+    ) -> Result<(), Fault>
         ensures { λ r. ⌜ told r ≡ walk-checks (size (now (self .entry) .records)) from root marks places ⌝ }
     {
         let size = self.records.enodes.len;
@@ -81,7 +106,13 @@ impl<'a, R: FrameRule> EGraph<'a, R> {
     }
 
     // The root walk from an enode, which ends at `root` where it is told one. Its enodes are written into `path`; `marks` is scratch.
-    pub fn path_to_root(&self, from: u32, root: Option<u32>, marks: &mut [u8], path: &mut [u32]) -> Result<RootWalk, Fault>
+    pub fn path_to_root(
+        &self,
+        from: u32,
+        root: Option<u32>,
+        marks: &mut [u8],
+        path: &mut [u32],
+    ) -> Result<RootWalk, Fault>
         ensures outcome { λ r. ⌜ (told r, (now (marks .exit), now (path .exit))) ≡ path-to-root (links-in (R·FrameRule .means (now (self .entry) .rule)) (now (self .entry) .records)) (size (now (self .entry) .records)) from root (now (marks .entry)) (now (path .entry)) ⌝ }
         ensures laws { λ _. ⌜ Walk-laws (R·FrameRule .means (now (self .entry) .rule) .counts) (given-list (now (self .entry) .records)) (size (now (self .entry) .records)) ⌝ }
     {

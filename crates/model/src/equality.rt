@@ -69,6 +69,12 @@ impl<'a> ArgPairs<'a> {
         let [from, to, rest @ ..] = self.words else {
             return None;
         };
-        Some((Pair { from: *from, to: *to }, ArgPairs { words: rest }))
+        Some((
+            Pair {
+                from: *from,
+                to: *to,
+            },
+            ArgPairs { words: rest },
+        ))
     }
 }

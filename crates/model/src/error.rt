@@ -56,7 +56,12 @@ impl Fault {
     pub fn new(cause: Cause) -> Fault
         ensures { λ r. ⌜ r ≡ record { cause = cause; pair = None; level = 0; argument = None } ⌝ }
     {
-        Fault { cause, pair: None, level: 0, argument: None }
+        Fault {
+            cause,
+            pair: None,
+            level: 0,
+            argument: None,
+        }
     }
 }
 
@@ -66,6 +71,11 @@ pub fn asked(pair: Pair, answer: Result<(), Fault>) -> Result<(), Fault>
 {
     match answer {
         Ok(()) => Ok(()),
-        Err(fault) => Err(Fault { cause: fault.cause, pair: Some(pair), level: fault.level, argument: fault.argument }),
+        Err(fault) => Err(Fault {
+            cause: fault.cause,
+            pair: Some(pair),
+            level: fault.level,
+            argument: fault.argument,
+        }),
     }
 }

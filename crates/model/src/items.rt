@@ -51,10 +51,31 @@ pub struct ArgPairs<'a> {
 // A given as it is logged: where it came from, and its two ends.
 #[derive(Clone, Copy)]
 pub enum EqualityExpl<'a> {
-    Root { id: u32 },
-    Literal { from: u32, eq: u32, to: u32 },
-    Congruence { from: u32, arg_eqs: ArgPairs<'a>, to: u32 },
-    Theory { from: u32, theory: u32, to: u32 },
-    Axiom { from: u32, to: u32 },
-    Unknown { kind: u32, from: u32, to: u32 },
+    Root {
+        id: u32,
+    },
+    Literal {
+        from: u32,
+        eq: u32,
+        to: u32,
+    },
+    Congruence {
+        from: u32,
+        arg_eqs: ArgPairs<'a>,
+        to: u32,
+    },
+    Theory {
+        from: u32,
+        theory: u32,
+        to: u32,
+    },
+    Axiom {
+        from: u32,
+        to: u32,
+    },
+    Unknown {
+        kind: u32,
+        from: u32,
+        to: u32,
+    },
 }

@@ -20,13 +20,17 @@ fn parent(size: u32, i: u32) -> u32 {
         return 0;
     }
     let level = i / width;
-    (level - 1).saturating_mul(width).saturating_add(scattered(i, width))
+    (level - 1)
+        .saturating_mul(width)
+        .saturating_add(scattered(i, width))
 }
 
 // An enode of the last level.
 pub fn leaf(size: u32, i: u32) -> u32 {
     let width = size / LEVELS;
-    width.saturating_mul(LEVELS - 1).saturating_add(scattered(i, width))
+    width
+        .saturating_mul(LEVELS - 1)
+        .saturating_add(scattered(i, width))
 }
 
 fn axiom(from: u32, to: u32) -> EqualityExpl<'static> {
@@ -37,7 +41,9 @@ fn axiom(from: u32, to: u32) -> EqualityExpl<'static> {
 fn link_all<R: FrameRule>(graph: &mut EGraph<'_, R>, size: u32) -> u32 {
     let mut refused: u32 = 0;
     for i in 1..size {
-        if graph.new_given_equality(i, axiom(i, parent(size, i))).is_err() {
+        if graph
+            .new_given_equality(i, axiom(i, parent(size, i)))
+            .is_err() {
             refused = refused.saturating_add(1);
         }
     }

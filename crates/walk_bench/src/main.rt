@@ -42,7 +42,13 @@ fn number(rt: &LibcRuntime, place: usize, otherwise: u32) -> io::Result<u32> {
 }
 
 // How many enodes so many walks meet.
-fn walk_all<R: FrameRule>(graph: &EGraph<'_, R>, size: u32, walks: u32, marks: &mut [u8], path: &mut [u32]) -> u64 {
+fn walk_all<R: FrameRule>(
+    graph: &EGraph<'_, R>,
+    size: u32,
+    walks: u32,
+    marks: &mut [u8],
+    path: &mut [u32],
+) -> u64 {
     let mut met: u64 = 0;
     for i in 0..walks {
         if let Ok(walk) = graph.path_to_root(leaf(size, i), None, marks, path) {
@@ -78,9 +84,15 @@ fn measure(rt: &LibcRuntime, size: u32, walks: u32, passed: u32, heap: Global) -
     let again = Instant::now(rt)?;
     clear_all(size, walks, &mut marks);
     let cleared = again.elapsed(rt)?;
-    println!(rt, "enodes {size} passed {passed} refused {refused} walks {walks} met {met}")?;
+    println!(
+        rt,
+        "enodes {size} passed {passed} refused {refused} walks {walks} met {met}"
+    )?;
     let (walked, cleared) = (walked.as_micros(), cleared.as_micros());
-    eprintln!(rt, "enodes {size} passed {passed}: walks {walked} us; clearing the marks once for each {cleared} us")
+    eprintln!(
+        rt,
+        "enodes {size} passed {passed}: walks {walked} us; clearing the marks once for each {cleared} us"
+    )
 }
 
 fn main(rt: LibcRuntime) -> io::Result<()> {

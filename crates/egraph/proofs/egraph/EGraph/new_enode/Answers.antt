@@ -20,9 +20,10 @@ ghost-self g c =
     let t = s .records in
     let filed = c .push .ensures .listed in
     let room : length (listed (t .enodes)) + 1 ≤ min 65536 (places (t .enodes)) = leb-true _ _ (sym (c .if-not-has-room .ensures tt)) in
-    let long = length-take-le (t .enodes .len) (t .enodes .rows .now) (s .«within_limits» .0 .0) in
-    (((omega (arith, c .push .ensures .len, c .push .ensures .places), omega (arith, c .push .ensures .len)), s .«within_limits» .1, s .«within_limits» .2),
-    (s .«arguments_filed», (enode-ends t (c .push .last .self) _ filed (s .«ends_filed»), (enode-in-lists t (c .push .last .self) _ filed refl (s .«ends_filed») (s .«in_lists»), tt))))
+    let long = length-take-le (t .enodes .len) (t .enodes .rows .now) (s .«within_limits» .0 .0) in (
+      ((omega (arith, c .push .ensures .len, c .push .ensures .places), omega (arith, c .push .ensures .len)), s .«within_limits» .1, s .«within_limits» .2),
+      (s .«arguments_filed», (enode-ends t (c .push .last .self) _ filed (s .«ends_filed»), (enode-in-lists t (c .push .last .self) _ filed refl (s .«ends_filed») (s .«in_lists»), tt))),
+    )
 
 pub returns : need.returns
 returns g c =

@@ -32,7 +32,8 @@ pub loop-len-again : need.loop-len-again
 loop-len-again g c =
     let s = c .args .self .now in
     let room : size (s .records) ≤ length (c .loop-len .guard .bytes .now) = omega (arith, c .pre .bytes, c .loop-len .inv .1, c .fill .ensures .len) in
-    let linked = sym (c .in-Some .ensures tt) in
-    (walk-on _ (c .args .root) _ (c .args .from) (c .args .base) (c .args .out .now) (c .pre .known) _ _ (c .loop-len .len) (c .loop-len .at) (c .loop-len .inv .0) (c .if-guard-at-ne0 .left) (c .pre .places) room (sym (c .if-is-root .ensures tt)) (c .in-Some .link) linked
-    (link-within (g .R·FrameRule .means (s .rule) .counts) _ (c .loop-len .at) (c .in-Some .link) linked (size (s .records)) (s .«ends_filed»)),
-    length-set (c .loop-len .guard .bytes .now) (c .loop-len .at) 1 ∙ c .loop-len .inv .1)
+    let linked = sym (c .in-Some .ensures tt) in (
+      walk-on _ (c .args .root) _ (c .args .from) (c .args .base) (c .args .out .now) (c .pre .known) _ _ (c .loop-len .len) (c .loop-len .at) (c .loop-len .inv .0) (c .if-guard-at-ne0 .left) (c .pre .places) room (sym (c .if-is-root .ensures tt)) (c .in-Some .link) linked
+          (link-within (g .R·FrameRule .means (s .rule) .counts) _ (c .loop-len .at) (c .in-Some .link) linked (size (s .records)) (s .«ends_filed»)),
+      length-set (c .loop-len .guard .bytes .now) (c .loop-len .at) 1 ∙ c .loop-len .inv .1,
+    )

@@ -34,8 +34,10 @@ returns c =
         limits = (
           (omega (arith, c .put .ensures .len, c .put .ensures .places, c .pre .limits .0 .0), omega (arith, c .put .ensures .len, c .pre .limits .0 .1)),
           (omega (arith, c .push .ensures .len, c .push .ensures .places, c .pre .given-room, givens-long), omega (arith, c .push .ensures .len, c .pre .given-room, givens-long)),
-          (omega (arith, c .push-pairs .ensures .len, c .push-pairs .ensures .places, c .pre .argument-room, arguments-long, ap length (c .arg-eqs .ensures)),
-          omega (arith, c .push-pairs .ensures .len, c .pre .argument-room, arguments-long, ap length (c .arg-eqs .ensures))),
+          (
+            omega (arith, c .push-pairs .ensures .len, c .push-pairs .ensures .places, c .pre .argument-room, arguments-long, ap length (c .arg-eqs .ensures)),
+            omega (arith, c .push-pairs .ensures .len, c .pre .argument-room, arguments-long, ap length (c .arg-eqs .ensures)),
+          ),
         );
       };
     }
