@@ -1,2 +1,4 @@
 mod Outcomes
 mod Replies
+mod Calls
+mod Listings
