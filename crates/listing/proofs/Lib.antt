@@ -2,3 +2,4 @@ mod Outcomes
 mod Replies
 mod Calls
 mod Listings
+mod Filled

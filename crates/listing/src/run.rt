@@ -4,7 +4,9 @@ ghost use mathlib.Core.List.{_++_};
 ghost use Rattle.std.specs.Of.String.{string-bytes};
 ghost use Rattle.std.specs.Vec.{made};
 ghost use Rattle.model.specs.Refusals.{told};
-ghost use Rattle.egraph.specs.View.{case-of};
+ghost use lib.ListN.{length};
+ghost use Rattle.egraph.specs.View.{case-of, given-list, size};
+ghost use Rattle.lines.specs.Text.{totals-text};
 ghost use Rattle.wordlog.specs.Calls.{call-of};
 ghost use Rattle.listing.specs.Runs.{refusal-text, call-text, After, Adds, Listed};
 use crate::question::ask;
@@ -93,6 +95,14 @@ fn run_calls<R: FrameRule>(
     }
 }
 
+fn show_totals<R: FrameRule>(graph: &EGraph<'_, R>, out: &mut String) -> Result<(), AllocError>
+    ensures { λ r. ⌜ made r (λ _. string-bytes (now (out .exit)) ≡ string-bytes (now (out .entry)) ++ totals-text (size (now (graph .entry) .records)) (length (given-list (now (graph .entry) .records))) (length (R·FrameRule .means (now (graph .entry) .rule) .opened))) ⌝ }
+{
+    let enodes = graph.enode_count() as u32;
+    let givens = graph.given_count() as u32;
+    totals_line(out, enodes, givens, graph.height())
+}
+
 // The text that the log prints under a frame rule.
 pub fn run<R: FrameRule + Drop>(
     rule: R,
@@ -108,11 +118,6 @@ pub fn run<R: FrameRule + Drop>(
     let mut graph = EGraph::new(&mut enodes, &mut givens, &mut arguments, rule);
     let mut out = String::new(heap);
     run_calls(&mut graph, words, ragged, &mut out)?;
-    totals_line(
-        &mut out,
-        graph.enode_count() as u32,
-        graph.given_count() as u32,
-        graph.height(),
-    )?;
+    show_totals(&graph, &mut out)?;
     Ok(out)
 }
