@@ -1,2 +1,5 @@
 mod Outcomes
 mod Replies
+mod Calls
+mod Listings
+mod Filled

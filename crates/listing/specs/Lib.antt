@@ -1,2 +1,3 @@
 pub mod Question
 pub mod Answers
+pub mod Runs

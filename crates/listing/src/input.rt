@@ -1,7 +1,13 @@
 // Reads a log: its whole words, and whether bytes are left over behind them.
-ghost use Prim.Native.Nat.{_≤_};
+ghost use mathlib.Core.Path.{_≡_};
+ghost use mathlib.Core.Bool.{not};
+ghost use Prim.Native.Nat.{_%_, _≤_};
+ghost use lib.Dec.{eqb};
 ghost use lib.ListN.{length};
+ghost use Rattle.std.specs.Of.Vec.{vec-items};
 ghost use Rattle.std.specs.Vec.{made};
+ghost use Rattle.wordlog.specs.Bytes.{words-in};
+use std::alloc::AllocError;
 use std::alloc::Global;
 use std::io;
 use std::io::Read;
@@ -34,13 +40,26 @@ fn fill(input: &mut impl Read, buffer: &mut [u8]) -> io::Result<usize>
     Ok(filled)
 }
 
+// The words that these bytes make; one to three bytes left over are in none.
+fn whole_words(bytes: &[u8], heap: Global) -> Result<Vec<u32>, AllocError>
+    ensures { λ r. ⌜ made r (λ words. vec-items words ≡ words-in (now (bytes .entry))) ⌝ }
+{
+    let mut words = vec![in heap; 0u32; bytes.len() / 4]?;
+    words_of(bytes, &mut words);
+    Ok(words)
+}
+
+fn log_of(bytes: &[u8], heap: Global) -> Result<Log, AllocError>
+    ensures { λ r. ⌜ made r (λ log. (vec-items (log .words) ≡ words-in (now (bytes .entry))) × (log .ragged ≡ not (eqb (length (now (bytes .entry)) % 4) 0))) ⌝ }
+{
+    Ok(Log {
+        words: whole_words(bytes, heap)?,
+        ragged: bytes.len() % 4 != 0,
+    })
+}
+
 pub fn read_log(input: &mut impl Read, heap: Global) -> io::Result<Log> {
     let mut bytes = vec![in heap; 0u8; MAX_BYTES]?;
     let count = fill(input, &mut bytes)?;
-    let mut words = vec![in heap; 0u32; count / 4]?;
-    words_of(&bytes[0..count], &mut words);
-    Ok(Log {
-        words,
-        ragged: count % 4 != 0,
-    })
+    Ok(log_of(&bytes[0..count], heap)?)
 }
