@@ -26,7 +26,7 @@ fn parent(size: u32, i: u32) -> u32 {
 }
 
 // An enode of the last level.
-pub fn leaf(size: u32, i: u32) -> u32 {
+pub(crate) fn leaf(size: u32, i: u32) -> u32 {
     let width = size / LEVELS;
     width
         .saturating_mul(LEVELS - 1)
@@ -51,7 +51,7 @@ fn link_all<R: FrameRule>(graph: &mut EGraph<'_, R>, size: u32) -> u32 {
 }
 
 // Logs the enodes and their links; then, in a frame that is closed again, `passed` newer givens of each. Answers how many calls were refused.
-pub fn grow<R: FrameRule>(graph: &mut EGraph<'_, R>, size: u32, passed: u32) -> u32 {
+pub(crate) fn grow<R: FrameRule>(graph: &mut EGraph<'_, R>, size: u32, passed: u32) -> u32 {
     let mut refused: u32 = 0;
     for owner in 0..size {
         if graph.new_enode(owner).is_err() {
