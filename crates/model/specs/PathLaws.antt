@@ -83,7 +83,7 @@ module _ (counts : ℕ → Bool) (gs : List Given) (size : ℕ) where
   abbrev pub next : Links
   next = links counts gs
 
-  -- a walk meets no enode twice, so that it ends within the number of enodes; it begins with its enode
+  -- a walk meets no enode twice, and ends within the number of enodes
   abbrev pub Walk-ends : Option ℕ → ℕ → Type 0
   Walk-ends root e = Distinct (root-walk next size root e .enodes) × (length (root-walk next size root e .enodes) ≤ size)
 

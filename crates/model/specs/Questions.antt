@@ -78,7 +78,7 @@ place-of u k [] = None
 place-of u k (v ∷ vs) = cond (same-list u v) (Some k) (place-of u (suc k) vs)
 
 -- the links of a question are read once, for its nested ones too; the level is the question's
-module _ (next : Links) (books : Records) (places : Places) (level : ℕ) where
+module _ (next : Links) (records : Records) (places : Places) (level : ℕ) where
   -- a refusal of the question for p
   abbrev pub refusal : Pair → ℕ → List ℕ → Refusal
   refusal p number values = record { number = number; values = values; pair = Some p; level = level; argument = None }
@@ -174,7 +174,7 @@ module _ (next : Links) (books : Records) (places : Places) (level : ℕ) where
       pure (step s (Some k))
 
     abbrev pub settle-segment : Segment → Act Segment
-    settle-segment (step s u) = settle-step s (args-of (given-at (books .givens) (s .given) .kind))
+    settle-segment (step s u) = settle-step s (args-of (given-at (records .givens) (s .given) .kind))
     settle-segment (entry n straight) = pure (entry n straight)
     settle-segment (mark e) = pure (mark e)
 
@@ -241,7 +241,7 @@ module _ (next : Links) (books : Records) (places : Places) (level : ℕ) where
     by-path may (Some way) = joined way
 
     abbrev pub answer : Bool → Act Reply
-    answer may = by-path may (path next (length (books .enodes)) (p .from) (p .to))
+    answer may = by-path may (path next (length (records .enodes)) (p .from) (p .to))
 
   abbrev pub unless-same : Bool → Pair → Act Reply → Act Reply
   unless-same true p rest = pure (same (p .from))
@@ -250,8 +250,8 @@ module _ (next : Links) (books : Records) (places : Places) (level : ℕ) where
   -- the enodes are on the books, and equal ones need no explanation
   abbrev pub checked : Pair → Act Reply → Act Reply
   checked p rest = do
-    need (ltb (p .from) (length (books .enodes))) (refusal p 1 (p .from ∷ []))
-    need (ltb (p .to) (length (books .enodes))) (refusal p 1 (p .to ∷ []))
+    need (ltb (p .from) (length (records .enodes))) (refusal p 1 (p .from ∷ []))
+    need (ltb (p .to) (length (records .enodes))) (refusal p 1 (p .to ∷ []))
     unless-same (eqb (p .from) (p .to)) p rest
 
   -- the question is told once it has ended
@@ -268,13 +268,13 @@ below may = record { start = may .arguments; arguments = false }
 
 -- a question with `left` levels above the one that is refused
 unfoldable pub ask-at : Links → Records → Places → ℕ → ℕ → Permission → Pair → Act Reply
-ask-at next books places zero level may p = put-question next books places level p (refuse-with (refusal next books places level p 6 (p .from ∷ p .to ∷ [])))
-ask-at next books places (suc left) level may p =
-    put-question next books places level p (answer next books places level (ask-at next books places left (suc level) (below may)) p (may .start))
+ask-at next records places zero level may p = put-question next records places level p (refuse-with (refusal next records places level p 6 (p .from ∷ p .to ∷ [])))
+ask-at next records places (suc left) level may p =
+    put-question next records places level p (answer next records places level (ask-at next records places left (suc level) (below may)) p (may .start))
 
 -- level 32 is accepted, level 33 refused
 unfoldable pub ask : Links → Records → Places → Permission → Pair → Act Reply
-ask next books places = ask-at next books places 33 0
+ask next records places = ask-at next records places 33 0
 
 -- what a proof that computes a question unfolds
 unfoldable pub asking : Unit {0}

@@ -61,7 +61,7 @@ pub record Explains (s : Session) (p : Pair) (entries : List Entry) (n : ℕ) : 
   pub joins : Joins (s .case .records .givens) (way .steps) (p .from) (p .to)
   pub once : Distinct (way .enodes)
 
--- what a question filed is an explanation of its own pair, or a mark of it
+-- an explanation that a question filed is one of its own pair
 pub record Files (s : Session) (entries : List Entry) (q : Question) : Type 0 where
   pub explains : (n : ℕ) → q .filed ≡ Some n → is-mark (entry-at entries n .segments) ≡ false → Explains s (q .pair) entries n
 
