@@ -39,8 +39,8 @@ module _ (limit : ℕ) (ws : List ℕ) (ragged : Bool) (first : Case) (before : 
       text = s .text ++ call-text limit at k c;
       is = wrote ∙ ap (λ t. t ++ call-text limit at k c) (s .is) ∙ append-assoc before (s .text) (call-text limit at k c);
       prints = λ more last p.
-        subst (λ t. Prints limit (words-read ws) (ragged-read ws ragged) 0 first t last) (sym (append-assoc (s .text) (call-text limit at k c) more))
-        (s .prints (call-text limit at k c ++ more) last (goes-on c behind k′ more (sym next-is ∙ moved-on at (next words rag at) (Some c) behind read) after refl p));
+          subst (λ t. Prints limit (words-read ws) (ragged-read ws ragged) 0 first t last) (sym (append-assoc (s .text) (call-text limit at k c) more))
+          (s .prints (call-text limit at k c ++ more) last (goes-on c behind k′ more (sym next-is ∙ moved-on at (next words rag at) (Some c) behind read) after refl p));
     }
 
     -- the end of the log
