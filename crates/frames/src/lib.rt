@@ -1,3 +1,5 @@
+#![tactic(auto)]
+
 // The frame rules: which solver frames are open, how many givens each has, and which of them count.
 pub mod every;
 pub mod laws;

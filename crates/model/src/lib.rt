@@ -1,3 +1,5 @@
+#![tactic(auto)]
+
 pub mod equality;
 pub mod error;
 pub mod items;

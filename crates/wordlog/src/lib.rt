@@ -1,3 +1,5 @@
+#![tactic(auto)]
+
 // Word logs: the calls of a case as words of 32 bits, read and written.
 pub mod bytes;
 pub mod call;

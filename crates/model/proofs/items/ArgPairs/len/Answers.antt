@@ -3,4 +3,4 @@ use Rattle.model.proofs.ArgPairs.{pairs_length}
 use Rattle.model.proofs.items.ArgPairs.len.Goals as goal
 
 pub returns : goal.returns
-returns c = c.pairs-in.ensures ∙ pairs_length c.args.self.words.now
+returns c = c.pairs_in.ensures ∙ pairs_length c.args.self.words.now
