@@ -6,7 +6,7 @@ use Rattle.lines.proofs.Joined.{joined_take_more}
 use Rattle.lines.proofs.parts.enode_parts.Goals as goal
 
 pub loop-enode-preserved : goal.loop-enode-preserved
-loop-enode-preserved c = joined_take_more enode_text _ _ _ _ _ 0 c.loop-enode-test.true c.loop-enode.invariant c.in-ok-enode-part.ensures
+loop-enode-preserved c = joined_take_more enode_text _ _ _ _ _ 0 c.loop-enode-test.true c.loop-enode.invariant c.in_ok-enode_part.ensures
 
 pub returns : goal.returns
 returns c = search (rules, take_all)

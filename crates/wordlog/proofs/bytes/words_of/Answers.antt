@@ -4,10 +4,10 @@ use Rattle.wordlog.specs.Bytes.{words_in, fitting}
 use Rattle.wordlog.proofs.Words.{words_in_length, words_in_at, filled_more}
 use Rattle.wordlog.proofs.bytes.words_of.Goals as goal
 
-pub returns-in-default : goal.returns-in-default
-returns-in-default c =
+pub returns-in_default : goal.returns-in_default
+returns-in_default c =
     let ws = words_in c.args.bytes.now in
-    let all : c.loop-i.i ≡ fitting ws c.args.out.now = omega (arith, words_in_length c.args.bytes.now, c.in-default.ensures) in
+    let all : c.loop-i.i ≡ fitting ws c.args.out.now = omega (arith, words_in_length c.args.bytes.now, c.in_default.ensures) in
     record { count = all; filled = c.loop-i.invariant.1 ∙ ap (λ n. take n ws ++ drop n c.args.out.now) all }
 
 pub loop-i-preserved : goal.loop-i-preserved

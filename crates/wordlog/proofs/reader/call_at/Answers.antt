@@ -19,11 +19,11 @@ returns-then-at-words c =
       within = omega arith;
     }
 
-pub returns-in-default : goal.returns-in-default
-returns-in-default c =
+pub returns-in_default : goal.returns-in_default
+returns-in_default c =
     let before : c.args.at < length c.args.words.now = omega arith in
     record {
-      is = ap (λ f. Err (refusal_of f)) c.new-in-default.ensures ∙ next_at_call c.args.words.now _ c.args.ragged c.args.at _ before (take_rest c.args.words.now c.args.at) c.in-default.ensures.is;
+      is = ap (λ f. Err (refusal_of f)) c.new-in_default.ensures ∙ next_at_call c.args.words.now _ c.args.ragged c.args.at _ before (take_rest c.args.words.now c.args.at) c.in_default.ensures.is;
       within = tt;
     }
 

@@ -13,7 +13,7 @@ pub returns : goal.returns
 returns c =
     let t = take_rest c.args.words.now 1 in
     let f = front_reads c.args.words.now (grind (arith, nat_tests)) in
-    let e : front_as c.read-kind.result ≡ front c.args.words.now = cc in
+    let e : front_as c.read_kind.result ≡ front c.args.words.now = cc in
     record {
       is = e;
       accepts = subst (Accepts c.args.words.now) (sym e) (front_accepted c.args.words.now);

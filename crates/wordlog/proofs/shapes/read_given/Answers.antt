@@ -9,14 +9,14 @@ use Rattle.wordlog.proofs.shapes.read_given.Goals as goal
 pub returns-then-count-rest : goal.returns-then-count-rest
 returns-then-count-rest c = grind (arith, nat_tests)
 
-pub returns-then-not-all-plain : goal.returns-then-not-all-plain
-returns-then-not-all-plain c = grind (arith, nat_tests)
+pub returns-then-not-all_plain : goal.returns-then-not-all_plain
+returns-then-not-all_plain c = grind (arith, nat_tests)
 
-pub returns-in-err-expl : goal.returns-in-err-expl
-returns-in-err-expl c =
-    ap front_as c.from-residual.ensures
-    ∙ given_reads c.args.kind c.args.count _ c.args.rest.now _ (sub-zero c.args.count) c.if-count-rest.false c.if-not-all-plain.ensures c.in-err-expl.ensures
+pub returns-in_err-expl : goal.returns-in_err-expl
+returns-in_err-expl c =
+    ap front_as c.from_residual.ensures
+    ∙ given_reads c.args.kind c.args.count _ c.args.rest.now _ (sub-zero c.args.count) c.if-count-rest.false c.if-not-all_plain.ensures c.in_err-expl.ensures
 
 pub returns : goal.returns
 returns c =
-    given_reads c.args.kind c.args.count _ c.args.rest.now _ (sub-zero c.args.count) c.if-count-rest.false c.if-not-all-plain.ensures c.in-ok-expl.ensures
+    given_reads c.args.kind c.args.count _ c.args.rest.now _ (sub-zero c.args.count) c.if-count-rest.false c.if-not-all_plain.ensures c.in_ok-expl.ensures

@@ -26,4 +26,4 @@ returns c =
     let ws = c.args.arguments.words.now in
     let z = sub-zero (length ws / 2 * 2) in
     let n : length (take (length ws / 2 * 2 - 0) ws) ≡ length ws / 2 * 2 = ap (λ k. length (take k ws)) z ∙ length-take-le _ ws (omega arith) in
-    congruence_writes c.args.from c.args.to ws _ (words_in_pairs ws ∙ ap (λ k. take k ws) (sym z)) c.given_head.result _ _ _ (cc) (omega arith) (omega arith) c.write-record.ensures
+    congruence_writes c.args.from c.args.to ws _ (words_in_pairs ws ∙ ap (λ k. take k ws) (sym z)) c.given_head.result _ _ _ (cc) (omega arith) (omega arith) c.write_record.ensures

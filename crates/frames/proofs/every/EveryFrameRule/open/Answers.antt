@@ -2,8 +2,8 @@ use Rattle.frames.specs.HandedOut.{opening}
 use Rattle.frames.proofs.Holders.{every_kept}
 use Rattle.frames.proofs.every.EveryFrameRule.open.Goals as goal
 
-pub invariant-of-self : goal.invariant-of-self
-invariant-of-self c = (let s = c.args.self.now in (opening s.table s.ok c.open.new.self c.open.result c.open.ensures).sound, tt)
+pub invariant_of-self : goal.invariant_of-self
+invariant_of-self c = record { ok = let s = c.args.self.now in (opening s.table s.ok c.open.new.self c.open.result c.open.ensures).sound }
 
 pub returns : goal.returns
 returns c =

@@ -5,8 +5,8 @@ use Rattle.frames.specs.HandedOut.{opening}
 use Rattle.frames.proofs.Holders.{live_kept}
 use Rattle.frames.proofs.live.LiveFrameRule.open.Goals as goal
 
-pub invariant-of-self : goal.invariant-of-self
-invariant-of-self c = (let s = c.args.self.now in (opening s.table s.ok c.open.new.self c.open.result c.open.ensures).sound, tt)
+pub invariant_of-self : goal.invariant_of-self
+invariant_of-self c = record { ok = let s = c.args.self.now in (opening s.table s.ok c.open.new.self c.open.result c.open.ensures).sound }
 
 pub returns : goal.returns
 returns c =
