@@ -151,8 +151,8 @@ module _ (t u : Records) (e : EqualityExpl) (frame : ℕ) (f : GivenFiled t e fr
         rw (f.enodes, list_more, more_long, newest_push (under x) (given_list t) new, test, get_or-set_other (listed t.enodes) (from_of e) x (with_newest (enode_under t e) (length (listed t.givens))) no_enode other) (lists.1 x low)
   ]
 
-  pub in-lists : from_of e < size t → InLists t → InLists u
-  in-lists from lists = (listed_more from lists, headed_more from lists)
+  pub in_lists : from_of e < size t → InLists t → InLists u
+  in_lists from lists = (listed_more from lists, headed_more from lists)
 
   abbrev answering : ℕ → Case → Outcome
   answering n k = (Ok n, k)

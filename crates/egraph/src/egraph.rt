@@ -28,7 +28,7 @@ impl<'a, R: FrameRule> EGraph<'a, R> {
         arguments: &'a mut [Pair],
         rule: R,
     ) -> EGraph<'a, R>
-        ensures { case_of (R.FrameRule.means result.rule) result.records ≡ empty_case (record { enodes = length enodes.entry.now; givens = length givens.old; arguments = length arguments.old }) (R.FrameRule.means rule) }
+        ensures { case_of (R.FrameRule.means result.rule) result.records ≡ empty_case (record { enodes = length enodes.old; givens = length givens.old; arguments = length arguments.old }) (R.FrameRule.means rule) }
     {
         EGraph {
             records: Records {

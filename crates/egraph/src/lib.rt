@@ -1,3 +1,5 @@
+#![tactic(auto)]
+
 // The records of a case and its equality graph: logging, links, root walks and paths.
 mod checks;
 pub mod egraph;

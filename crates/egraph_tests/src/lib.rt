@@ -1,3 +1,5 @@
+#![tactic(auto)]
+
 // Tests of the calls on a case, from outside.
 #[cfg(test)]
 mod tests;

@@ -1,3 +1,5 @@
+#![tactic(auto)]
+
 // Runs a word log from the standard input, and prints what its questions are answered.
 mod input;
 mod question;

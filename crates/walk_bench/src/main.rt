@@ -1,3 +1,5 @@
+#![tactic(auto)]
+
 // Measures root walks: walk_bench ENODES WALKS PASSED. Counts go to the standard output, times to the standard error.
 mod grown;
 

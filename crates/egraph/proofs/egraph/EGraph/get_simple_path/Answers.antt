@@ -7,7 +7,7 @@ returns-then-walks-from g c = record {
   found =
       roots_differ _ _ c.args.pair c.requires.from c.requires.to c.args.walks.now c.requires.places
       c.walk-from.result.len c.walk-from.new.out (ap (λ r. r.len) c.walk-from.ensures.walk) c.walk-from.ensures.out
-      c.walk_to.result.len c.walk_to.new.out (ap (λ r. r.len) c.walk_to.ensures.walk) c.walk_to.ensures.out c.if-walks-from.true;
+      c.walk-to.result.len c.walk-to.new.out (ap (λ r. r.len) c.walk-to.ensures.walk) c.walk-to.ensures.out c.if-walks-from.true;
   marks = search rules;
 }
 
@@ -16,7 +16,7 @@ returns g c = record {
   found =
       roots_meet _ _ c.args.pair c.requires.from c.requires.to c.args.walks.now c.requires.places
       c.walk-from.result.len c.walk-from.new.out (ap (λ r. r.len) c.walk-from.ensures.walk) c.walk-from.ensures.out
-      c.walk_to.result.len c.walk_to.new.out (ap (λ r. r.len) c.walk_to.ensures.walk) c.walk_to.ensures.out c.if-walks-from.false
-      c.common-tail-shared.result c.common-tail-shared.ensures;
+      c.walk-to.result.len c.walk-to.new.out (ap (λ r. r.len) c.walk-to.ensures.walk) c.walk-to.ensures.out c.if-walks-from.false
+      c.common_tail-shared.result c.common_tail-shared.ensures;
   marks = search rules;
 }

@@ -5,4 +5,4 @@ use Rattle.egraph.specs.Records.{given_of}
 use Rattle.egraph.proofs.egraph.EGraph.given_count.Goals as goal
 
 pub returns : goal.returns
-returns g c = let t = c.args.self.now.records in c.givens-filed.ensures ∙ sym (length-map (listed t.givens) (given_of (listed t.arguments)))
+returns g c = let t = c.args.self.now.records in c.givens_filed.ensures ∙ sym (length-map (listed t.givens) (given_of (listed t.arguments)))

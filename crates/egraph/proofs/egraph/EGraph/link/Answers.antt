@@ -29,4 +29,4 @@ loop-next-preserved g c =
     link_older s.records s.within_limits s.in_lists _ c.args.enode c.loop-next.next c.loop-next.invariant c.in-Some.number c.in-Some.is (sym c.if-counts.ensures)
 
 pub returns : goal.returns
-returns g c = sym (no_link_left _ _ c.args.enode c.loop-next.next c.loop-next.invariant c.in-default.is)
+returns g c = sym (no_link_left _ _ c.args.enode c.loop-next.next c.loop-next.invariant c.in_default.is)

@@ -6,21 +6,24 @@ use Rattle.egraph.proofs.Refused.{refused_as}
 use Rattle.egraph.proofs.Filed.{enode_ends, enode_in_lists, enode_outcome, enode_refused}
 use Rattle.egraph.proofs.egraph.EGraph.new_enode.Goals as goal
 
-pub returns-then-not-has-room : goal.returns-then-not-has-room
-returns-then-not-has-room g c =
+pub returns-then-not-has_room : goal.returns-then-not-has_room
+returns-then-not-has_room g c =
     let s = c.args.self.now in
-    record { outcome = refused_as c.new.ensures ∙ enode_refused (g.R.FrameRule.means s.rule) s.records c.args.owner (sym c.if-not-has-room.ensures); kept = ((refl, refl, refl, refl, refl, refl), refl) }
+    record { outcome = refused_as c.new.ensures ∙ enode_refused (g.R.FrameRule.means s.rule) s.records c.args.owner (sym c.if-not-has_room.ensures); kept = ((refl, refl, refl, refl, refl, refl), refl) }
 
-pub invariant-of-self : goal.invariant-of-self
-invariant-of-self g c =
+pub invariant_of-self : goal.invariant_of-self
+invariant_of-self g c =
     let s = c.args.self.now in
     let t = s.records in
     let filed = c.push.ensures.listed in
-    let room : length (listed t.enodes) + 1 ≤ min 65536 (places t.enodes) = leb-true _ _ (sym c.if-not-has-room.ensures) in
-    let long = length-take-le t.enodes.len t.enodes.rows.now s.within_limits.0.0 in (
-      ((omega (arith, c.push.ensures.len, c.push.ensures.places), omega (arith, c.push.ensures.len)), s.within_limits.1, s.within_limits.2),
-      (s.arguments_filed, (enode_ends t c.push.new.self _ filed s.ends_filed, (enode_in_lists t c.push.new.self _ filed refl s.ends_filed s.in_lists, tt))),
-    )
+    let room : length (listed t.enodes) + 1 ≤ min 65536 (places t.enodes) = leb-true _ _ (sym c.if-not-has_room.ensures) in
+    let long = length-take-le t.enodes.len t.enodes.rows.now s.within_limits.0.0 in
+    record {
+      within_limits = ((omega (arith, c.push.ensures.len, c.push.ensures.places), omega (arith, c.push.ensures.len)), s.within_limits.1, s.within_limits.2);
+      arguments_filed = s.arguments_filed;
+      ends_filed = enode_ends t c.push.new.self _ filed s.ends_filed;
+      in_lists = enode_in_lists t c.push.new.self _ filed refl s.ends_filed s.in_lists;
+    }
 
 pub returns : goal.returns
 returns g c =
@@ -30,6 +33,6 @@ returns g c =
       outcome =
           enode_outcome t c.push.new.self _ c.push.ensures.listed (g.R.FrameRule.means s.rule) t.enodes.len
           (length-take-le t.enodes.len t.enodes.rows.now s.within_limits.0.0)
-          c.push.ensures.places c.active-frame-frame.ensures (sym c.if-not-has-room.ensures);
+          c.push.ensures.places c.active_frame-frame.ensures (sym c.if-not-has_room.ensures);
       kept = tt;
     }

@@ -22,8 +22,8 @@ loop-next-smaller g c =
 pub loop-next-preserved : goal.loop-next-preserved
 loop-next-preserved g c =
     let s = c.args.self.now in
-    subst (Sought c.args.from c.args.to (given_list s.records) _) (sym c.found-back-oldest.ensures)
+    subst (Sought c.args.from c.args.to (given_list s.records) _) (sym c.found_back-oldest.ensures)
     (sought_older s.records s.within_limits s.in_lists c.args.from c.args.to c.loop-next.next c.loop-next.oldest c.loop-next.invariant c.in-Some.number c.in-Some.is)
 
 pub returns : goal.returns
-returns g c = sym (none_left c.args.from c.args.to _ c.loop-next.next c.loop-next.oldest c.loop-next.invariant c.in-default.is)
+returns g c = sym (none_left c.args.from c.args.to _ c.loop-next.next c.loop-next.oldest c.loop-next.invariant c.in_default.is)

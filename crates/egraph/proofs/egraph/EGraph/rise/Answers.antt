@@ -12,7 +12,7 @@ pub loop-i-preserved : goal.loop-i-preserved
 loop-i-preserved g c =
     let next = links_in (g.R.FrameRule.means c.args.self.now.rule) c.args.self.now.records in
     let es = c.args.enodes.now in
-    more_placed c.args.base (length es) (rising_steps next es) c.args.steps.now (rising_long next es) c.requires.places c.loop-i.i c.loop-i.steps _ (omega arith) c.loop-i.invariant (rising_at next es c.loop-i.i c.given-up.result _ (omega arith) c.given-up.ensures)
+    more_placed c.args.base (length es) (rising_steps next es) c.args.steps.now (rising_long next es) c.requires.places c.loop-i.i c.loop-i.steps _ (omega arith) c.loop-i.invariant (rising_at next es c.loop-i.i c.given_up.result _ (omega arith) c.given_up.ensures)
 
 pub returns : goal.returns
 returns g c =

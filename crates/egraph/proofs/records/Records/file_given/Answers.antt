@@ -22,17 +22,17 @@ returns c =
       number = sym givens-long;
       filed = record {
         enodes = c.put.ensures.listed ∙ cc (at, under, givens-long);
-        givens = c.push.ensures.listed ∙ ap (λ r. listed t.givens ++ (r ∷ [])) (row_made t e c.args.frame _ _ _ t.arguments.len _ c.from.ensures c.to.ensures c.kind-at-kind.ensures arguments-long at);
-        arguments = c.push-pairs.ensures.listed ∙ ap (λ ps. listed t.arguments ++ ps) c.arg-eqs.ensures;
+        givens = c.push.ensures.listed ∙ ap (λ r. listed t.givens ++ (r ∷ [])) (row_made t e c.args.frame _ _ _ t.arguments.len _ c.from.ensures c.to.ensures c.kind_at-kind.ensures arguments-long at);
+        arguments = c.push_pairs.ensures.listed ∙ ap (λ ps. listed t.arguments ++ ps) c.arg_eqs.ensures;
         enode_places = c.put.ensures.places;
         given_places = c.push.ensures.places;
-        argument_places = c.push-pairs.ensures.places;
+        argument_places = c.push_pairs.ensures.places;
         limits = (
           (omega (arith, c.put.ensures.len, c.put.ensures.places, c.requires.limits.0.0), omega (arith, c.put.ensures.len, c.requires.limits.0.1)),
           (omega (arith, c.push.ensures.len, c.push.ensures.places, c.requires.given_room, givens-long), omega (arith, c.push.ensures.len, c.requires.given_room, givens-long)),
           (
-            omega (arith, c.push-pairs.ensures.len, c.push-pairs.ensures.places, c.requires.argument_room, arguments-long, ap length c.arg-eqs.ensures),
-            omega (arith, c.push-pairs.ensures.len, c.requires.argument_room, arguments-long, ap length c.arg-eqs.ensures),
+            omega (arith, c.push_pairs.ensures.len, c.push_pairs.ensures.places, c.requires.argument_room, arguments-long, ap length c.arg_eqs.ensures),
+            omega (arith, c.push_pairs.ensures.len, c.requires.argument_room, arguments-long, ap length c.arg_eqs.ensures),
           ),
         );
       };
