@@ -8,7 +8,7 @@ use Rattle.listing.proofs.input.whole_words.Goals as goal
 pub returns : goal.returns
 returns c =
     let ws = words_in c.args.bytes.now in
-    let out = c.deref-mut.result.now in
-    let same : length ws ≡ length out = omega (arith, words_in_length c.args.bytes.now, c.deref-mut.ensures.len, c.in-ok-words.ensures.len) in
-    let all : c.words-of.new.out ≡ ws = c.words-of.ensures.filled ∙ all_filled ws out same in
-    take_at c.words-of.new.out _ _ (omega (arith, ap length all, same, c.deref-mut.ensures.len)) ∙ all
+    let out = c.deref_mut.result.now in
+    let same : length ws ≡ length out = omega (arith, words_in_length c.args.bytes.now, c.deref_mut.ensures.len, c.in_ok-words.ensures.len) in
+    let all : c.words_of.new.out ≡ ws = c.words_of.ensures.filled ∙ all_filled ws out same in
+    take_at c.words_of.new.out _ _ (omega (arith, ap length all, same, c.deref_mut.ensures.len)) ∙ all

@@ -9,10 +9,10 @@ use Rattle.listing.proofs.run.run_call.Goals as goal
 pub returns-in-Given : goal.returns-in-Given
 returns-in-Given g c =
     let t = c.args.graph.now in
-    let u = c.new-given-equality.new.self in
-    let logged = given_logged g.R.FrameRule.limit c.args.place c.args.call (case_of (g.R.FrameRule.means t.rule) t.records) (case_of (g.R.FrameRule.means u.rule) u.records) c.in-Given.expl c.from.result (told c.new-given-equality.result) c.in-Given.is c.from.ensures c.new-given-equality.ensures.outcome in
+    let u = c.new_given_equality.new.self in
+    let logged = given_logged g.R.FrameRule.limit c.args.place c.args.call (case_of (g.R.FrameRule.means t.rule) t.records) (case_of (g.R.FrameRule.means u.rule) u.records) c.in-Given.expl c.from.result (told c.new_given_equality.result) c.in-Given.is c.from.ensures c.new_given_equality.ensures.outcome in
     record {
-      text = IfOk-weaker c.show-refusal-in-Given.result _ _ (λ x e. e ∙ ap (λ r. string_bytes c.args.out.now ++ r) logged.0) c.show-refusal-in-Given.ensures;
+      text = IfOk-weaker c.show_refusal-in-Given.result _ _ (λ x e. e ∙ ap (λ r. string_bytes c.args.out.now ++ r) logged.0) c.show_refusal-in-Given.ensures;
       case = logged.1;
     }
 

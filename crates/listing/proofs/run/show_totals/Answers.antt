@@ -5,8 +5,8 @@ use Rattle.egraph.specs.Table.{listed}
 use Rattle.egraph.specs.View.{given_list}
 use Rattle.listing.proofs.run.show_totals.Goals as goal
 
-pub overflow-cast-givens : goal.overflow-cast-givens
-overflow-cast-givens g c =
+pub overflow_cast-givens : goal.overflow_cast-givens
+overflow_cast-givens g c =
     let t = c.args.graph.now.records in
     let fits = c.args.graph.now.within_limits.1 in
     let rows : length (given_list t) ≡ length (listed t.givens) = length-map (listed t.givens) _ in
