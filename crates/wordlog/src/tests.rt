@@ -164,7 +164,7 @@ fn call_fields(rt: HostRuntime) -> Result<(), Fail> {
     else {
         return Err(Fail::new("congruence"));
     };
-    assert!(rt; arg_eqs.words == &[3, 4]);
+    assert!(rt; arg_eqs.words == [3, 4].as_slice());
     let Ok(
         Some(
             Call::Ask {

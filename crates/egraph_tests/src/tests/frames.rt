@@ -1,5 +1,6 @@
 // Frames of a case: their numbers, their counts, and when one is refused.
 use super::support::*;
+use std::test::Fail;
 use egraph::egraph::EGraph;
 use frames::live::Live;
 
@@ -17,9 +18,11 @@ fn frames_open_and_close(rt: HostRuntime) -> Result<(), Fail> {
     answers(&rt, graph.new_frame(), 2)?;
     refuses(&rt, graph.new_given_equality(1, axiom(0, 1)), 3, 1)?;
     assert_eq!(rt; graph.height(), 3);
-    answers(&rt, graph.pop_frame(), 0).note("a refused given is not counted")?;
+    // a refused given is not counted
+    answers(&rt, graph.pop_frame(), 0)?;
     answers(&rt, graph.pop_frame(), 2)?;
-    answers(&rt, graph.new_frame(), 3).note("no number is handed out twice")?;
+    // no number is handed out twice
+    answers(&rt, graph.new_frame(), 3)?;
     assert_eq!(rt; graph.height(), 2);
     counts(&rt, &graph, 2, 2);
     Ok(())

@@ -1,5 +1,6 @@
 // The limits of the tables, in tables that have places for more.
 use super::support::*;
+use std::test::Fail;
 use egraph::egraph::EGraph;
 use frames::every::Every;
 use frames::rule::FrameRule;
@@ -20,9 +21,8 @@ fn enodes_and_givens(rt: HostRuntime) -> Result<(), Fail> {
             number,
         )?;
     }
-    refuses(&rt, graph.new_given_equality(65535, axiom(65535, 0)), 4, 1).note(
-        "before the frame's count, which is full too",
-    )?;
+    // before the frame's count, which is full too
+    refuses(&rt, graph.new_given_equality(65535, axiom(65535, 0)), 4, 1)?;
     answers(&rt, graph.get_given(65535, 0), Some(0))?;
     counts(&rt, &graph, 65536, 65536);
     Ok(())

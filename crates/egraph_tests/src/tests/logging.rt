@@ -1,5 +1,6 @@
 // Logging: a table that is full, enodes that are not on the books, and the order of the checks.
 use super::support::*;
+use std::test::Fail;
 use egraph::egraph::EGraph;
 use frames::live::Live;
 use model::items::{ArgPairs, EqualityExpl};
@@ -54,12 +55,12 @@ fn arguments_fill_their_table(rt: HostRuntime) -> Result<(), Fail> {
         2,
     )?;
     counts(&rt, &graph, 2, 0);
+    // an odd word is in no pair
     answers(
         &rt,
         graph.new_given_equality(0, congruence(0, 1, &[0, 1, 1])),
         0,
-    )
-    .note("an odd word is in no pair")?;
+    )?;
     refuses(
         &rt,
         graph.new_given_equality(0, congruence(0, 1, &[0, 1, 1, 0])),

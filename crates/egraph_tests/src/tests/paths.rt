@@ -1,5 +1,6 @@
 // Paths: the steps and their directions, and pairs that have none.
 use super::support::*;
+use std::test::Fail;
 use egraph::egraph::EGraph;
 use frames::every::Every;
 
@@ -24,7 +25,8 @@ fn up_and_down(rt: HostRuntime) -> Result<(), Fail> {
     step_is(&rt, steps[1], 2, true)?;
     step_is(&rt, steps[2], 0, false)?;
     step_is(&rt, steps[3], 1, false)?;
-    step_is(&rt, steps[4], 99, false).note("what is not written stays")
+    // what is not written stays
+    step_is(&rt, steps[4], 99, false)
 }
 
 #[test]

@@ -1,5 +1,6 @@
 // Scratch and output that are too short: marks first, then walks, then steps, and only then the enodes.
 use super::support::*;
+use std::test::Fail;
 use egraph::egraph::EGraph;
 use frames::live::Live;
 
@@ -13,7 +14,8 @@ fn a_walk_needs_places(rt: HostRuntime) -> Result<(), Fail> {
     let mut path = [9; 3];
     let mut few_marks = [7; 2];
     let mut few_places = [9; 2];
-    refuses(&rt, graph.path_to_root(0, None, &mut [], &mut []), 1, 0).note("no enodes, no places")?;
+    // no enodes, no places
+    refuses(&rt, graph.path_to_root(0, None, &mut [], &mut []), 1, 0)?;
     log_enodes(&mut graph, 3)?;
     refuses(
         &rt,

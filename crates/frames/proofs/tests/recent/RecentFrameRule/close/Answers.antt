@@ -7,17 +7,17 @@ use Rattle.frames.proofs.Holders.{same_holder}
 use Rattle.frames.proofs.LastClosed.{closing_granted, closing_refused}
 use Rattle.frames.proofs.tests.recent.RecentFrameRule.close.Goals as goal
 
-pub invariant-of-self : goal.invariant-of-self
-invariant-of-self c = (let s = c.args.self.now in (closing s.table s.ok c.close.new.self c.close.result c.close.ensures).sound, tt)
+pub invariant_of-self : goal.invariant_of-self
+invariant_of-self c = record { ok = let s = c.args.self.now in (closing s.table s.ok c.close.new.self c.close.result c.close.ensures).sound }
 
-pub invariant-of-self-in-Err· : goal.invariant-of-self-in-Err·
-invariant-of-self-in-Err· c = (let s = c.args.self.now in (closing s.table s.ok c.close.new.self c.close.result c.close.ensures).sound, tt)
+pub invariant_of-self-in-Err-1 : goal.invariant_of-self-in-Err-1
+invariant_of-self-in-Err-1 c = record { ok = let s = c.args.self.now in (closing s.table s.ok c.close.new.self c.close.result c.close.ensures).sound }
 
 pub returns-in-Ok : goal.returns-in-Ok
 returns-in-Ok c =
     let s = c.args.self.now in
     let done = closing s.table s.ok c.close.new.self (Ok c.in-Ok.count) c.in-Ok.ensures in
-    record { outcome = rw (c.active-frame-closed.ensures, ← current_is s.table s.ok) (closing_granted s.closed (handed_out s.table) (table_within s.table s.ok).0 c.in-Ok.count (handed_out c.close.new.self) done.outcome); kept = tt }
+    record { outcome = rw (c.active_frame-closed.ensures, ← current_is s.table s.ok) (closing_granted s.closed (handed_out s.table) (table_within s.table s.ok).0 c.in-Ok.count (handed_out c.close.new.self) done.outcome); kept = tt }
 
 pub returns-in-Err : goal.returns-in-Err
 returns-in-Err c =

@@ -7,8 +7,8 @@ use Rattle.frames.proofs.LastClosed.{also, opening_also}
 use Rattle.frames.proofs.OpenOnly.{seen}
 use Rattle.frames.proofs.tests.recent.RecentFrameRule.open.Goals as goal
 
-pub invariant-of-self : goal.invariant-of-self
-invariant-of-self c = (let s = c.args.self.now in (opening s.table s.ok c.open.new.self c.open.result c.open.ensures).sound, tt)
+pub invariant_of-self : goal.invariant_of-self
+invariant_of-self c = record { ok = let s = c.args.self.now in (opening s.table s.ok c.open.new.self c.open.result c.open.ensures).sound }
 
 pub returns : goal.returns
 returns c =
