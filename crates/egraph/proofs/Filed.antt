@@ -1,25 +1,24 @@
 -- The tables after a record is filed. Assumes nothing.
-use Rattle.std.proofs.Common.{◌≡◌, ℕ, suc, ◌+◌, ◌<◌, ◌≤◌, min, Bool, true, false, cond, eqb, ltb, leb, ◌⊎◌, List, [], ◌∷◌, ◌++◌, map, length, get_or, Some, None, Ok, Err, Option, sym, refl, ap, ◌∙◌, subst, inl, inr, arith}
+use Rattle.std.proofs.Common.{◌≡◌, ℕ, ◌+◌, ◌≤◌, min, true, false, ltb, leb, List, [], ◌∷◌, ◌++◌, map, length, None, Ok, Err, inl, inr, arith}
 use Rattle.std.proofs.lemmas.List.{get_or_append_left, get_or_push, length_push, length-map, map_push}
 use Rattle.std.proofs.lemmas.Bool.{cases_lt, ne_eqb, leb-true, lt-ltb, le-ltb, leb-false}
 use Rattle.model.specs.Records as M
 use Rattle.model.specs.Records.{given_at, newest}
 use Rattle.model.specs.Frames.{Frames, current}
 use Rattle.model.specs.Refusals.{full}
-use Rattle.model.specs.Logging.{Case, Outcome, new_enode, enode_added}
+use Rattle.model.specs.Logging.{Outcome, new_enode}
 use Rattle.model.specs.PathLaws.{EndsKnown}
 use Rattle.model.specs.declared.error.TableName.TheVariants.{Enodes}
 use Rattle.egraph.specs.declared.enode.ENode.{ENode}
-use Rattle.egraph.specs.declared.equality.Given.{Given}
 use Rattle.egraph.specs.declared.table.Table.{Table}
 use Rattle.egraph.specs.declared.records.Records.{Records}
 use Rattle.egraph.specs.declared.equality.Kind.{Kind}
 use Rattle.model.specs.declared.items.EqualityExpl.{EqualityExpl}
 use Rattle.model.specs.Explanations.{from_of, to_of}
 use Rattle.egraph.specs.Filing.{row_kind, row_of, enode_under}
-use Rattle.egraph.specs.Table.{listed, places, Fits}
-use Rattle.egraph.specs.Records.{enode_of, records_of, no_enode, under, Headed}
-use Rattle.egraph.specs.View.{case_of, given_list, size, EndsFiled, InLists, WithinLimits, ArgumentsFiled}
+use Rattle.egraph.specs.Table.{listed, places}
+use Rattle.egraph.specs.Records.{enode_of, no_enode, under, Headed}
+use Rattle.egraph.specs.View.{case_of, given_list, size, EndsFiled, InLists}
 use Rattle.model.proofs.Links.{newest_skip}
 
 -- a new enode has no given

@@ -1,5 +1,5 @@
 -- The tables after a given is filed hold the case with that given, and stay in order. Assumes nothing.
-use Rattle.std.proofs.Common.{◌≡◌, ℕ, zero, suc, ◌+◌, ◌<◌, ◌≤◌, Bool, true, false, cond, eqb, ◌≢◌, ◌⊎◌, List, [], ◌∷◌, ◌++◌, map, length, get_or, take, drop, set, Some, None, Ok, Err, Option, Result, sym, refl, ap, ◌∙◌, inl, inr, add-one, arith, length-append, length-set}
+use Rattle.std.proofs.Common.{◌≡◌, ℕ, suc, ◌+◌, ◌<◌, ◌≤◌, true, false, eqb, ◌⊎◌, List, [], ◌∷◌, ◌++◌, map, length, get_or, take, drop, set, Ok, Result, sym, refl, ap, ◌∙◌, inl, inr, add-one, arith, length-append, length-set}
 use lib.Seq.{drop-append_seam, take-length}
 use Rattle.std.proofs.lemmas.List.{get_or_append_left, get_or_push, length_push, length-map, map_push, map-set, get_or-map, set-get_or, get_or-set_same, get_or-set_other, take-append-le, drop-append-le, length-drop, set_past}
 use Rattle.std.proofs.lemmas.Bool.{cases_lt, cases_eq, ne_eqb, eq-eqb}
@@ -14,13 +14,11 @@ use Rattle.model.specs.Checks.{unless_refused}
 use Rattle.model.specs.Refusals.{Refusal}
 use Rattle.model.specs.Explanations as X
 use Rattle.model.specs.Explanations.{from_of, to_of, pairs_of}
-use Rattle.model.specs.PathLaws.{EndsKnown}
-use Rattle.egraph.specs.declared.enode.ENode.{ENode}
 use Rattle.egraph.specs.declared.equality.Given.{Given}
 use Rattle.egraph.specs.declared.equality.Kind.{Kind}
 use Rattle.egraph.specs.declared.equality.Kind.TheVariants.{Root, Literal, Congruence, Theory, Axiom, Unknown}
 use Rattle.egraph.specs.declared.records.Records.{Records}
-use Rattle.egraph.specs.Table.{listed, places}
+use Rattle.egraph.specs.Table.{listed}
 use Rattle.egraph.specs.Records.{enode_of, kind_of, given_of, givens_of, no_enode, no_row, under, past, range_end, Ranged, Listed, Headed}
 use Rattle.egraph.specs.View.{case_of, given_list, size, ArgumentsFiled, EndsFiled, InLists}
 use Rattle.egraph.specs.Filing.{row_kind, row_of, enode_under, with_newest, GivenFiled}

@@ -1,10 +1,9 @@
 -- Going down the list of an enode's givens. Assumes nothing.
-use Rattle.std.proofs.Common.{◌≡◌, ℕ, zero, suc, ◌<◌, ◌≤◌, Bool, true, false, cond, List, length, get_or, Some, None, Option, sym, refl, ap, ◌∙◌, inl, inr, arith}
+use Rattle.std.proofs.Common.{◌≡◌, ℕ, zero, suc, ◌<◌, ◌≤◌, Bool, false, List, length, get_or, Some, None, Option, sym, refl, ap, ◌∙◌, inl, inr, arith}
 use Rattle.std.proofs.lemmas.List.{get_or-map, get_or-take, length-map, length-take-le}
 use Rattle.std.proofs.lemmas.Bool.{eqb-true, cases_Bool}
 use Rattle.model.specs.Records.{Given, no_given, given_at, newest}
-use Rattle.model.proofs.Links.{Newest, newest_found, newest_none, newest_skip}
-use Rattle.egraph.specs.declared.enode.ENode.{ENode}
+use Rattle.model.proofs.Links.{Newest, newest_found, newest_none}
 use Rattle.egraph.specs.declared.equality.Given.{Given as Row}
 use Rattle.egraph.specs.declared.records.Records.{Records}
 use Rattle.egraph.specs.Table.{listed}

@@ -1,7 +1,6 @@
 -- The search for an enode's link. Assumes nothing.
-use Rattle.std.proofs.Common.{◌≡◌, ℕ, suc, ◌<◌, ◌≤◌, Bool, true, false, cond, ◌&&◌, eqb, List, length, get_or, Some, None, Option, sym, refl, ap, ◌∙◌, arith}
-use Rattle.std.proofs.lemmas.Bool.{and_left, and_from, and_right}
-use Rattle.model.specs.declared.items.Link.{Link}
+use Rattle.std.proofs.Common.{◌≡◌, ℕ, suc, ◌<◌, Bool, true, false, cond, ◌&&◌, eqb, List, length, get_or, Some, None, Option, refl, ap, ◌∙◌, arith}
+use Rattle.std.proofs.lemmas.Bool.{and_left}
 use Rattle.model.specs.Records.{Given, given_at, newest}
 use Rattle.model.specs.Walks.{links, as_link, counting}
 use Rattle.model.proofs.Links.{Newest, newest_skip}

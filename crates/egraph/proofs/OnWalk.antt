@@ -1,10 +1,10 @@
 -- A root walk with mark bytes, enode by enode. Assumes nothing.
-use Rattle.std.proofs.Common.{◌≡◌, ℕ, suc, ◌+◌, ◌<◌, ◌≤◌, Bool, true, false, cond, ◌||◌, eqb, ◌≢◌, ◌⊎◌, List, [], ◌∷◌, ◌++◌, length, get_or, set, replicate, Some, None, Option, sym, refl, ap, ◌∙◌, inl, inr, arith}
-use Rattle.std.proofs.lemmas.List.{get_or-set_same, get_or-set_other, length_push, length-set, get_or-replicate}
+use Rattle.std.proofs.Common.{◌≡◌, ℕ, ◌+◌, ◌<◌, ◌≤◌, Bool, true, false, cond, List, [], ◌∷◌, ◌++◌, length, get_or, set, replicate, Some, None, Option, sym, refl, ap, ◌∙◌, inl, inr, arith}
+use Rattle.std.proofs.lemmas.List.{get_or-set_same, get_or-set_other, length_push, get_or-replicate}
 use Rattle.std.proofs.lemmas.Bool.{cases_Bool, cases_eq}
 use Rattle.std.proofs.lemmas.Bool.Decides.{nat_tests}
 use Rattle.model.specs.declared.items.Link.{Link}
-use Rattle.model.specs.Walks.{Links, Walk, no_link, again, at_root, met, is_root, root_walk}
+use Rattle.model.specs.Walks.{Links, Walk, met, is_root, root_walk}
 use Rattle.model.proofs.Members.{met_append, distinct_short}
 use Rattle.model.proofs.Walks.{walk_begins, walk_short}
 use Rattle.model.proofs.Resuming.{resume, Partway, partway_start, partway_more, resume_start, resume_again, resume_stops, resume_ends, resume_goes_on}

@@ -1,11 +1,11 @@
 -- The steps of a path over two walks. Assumes nothing.
-use Rattle.std.proofs.Common.{◌≡◌, ℕ, zero, suc, ◌+◌, ◌-◌, ◌<◌, ◌≤◌, Bool, true, false, cond, ◌||◌, eqb, ◌⊎◌, List, [], ◌∷◌, ◌++◌, map, reverse, length, get_or, take, drop, Some, None, Option, sym, refl, ap, ◌∙◌, subst, inl, inr, append_assoc, zero-add, arith}
+use Rattle.std.proofs.Common.{◌≡◌, ℕ, zero, suc, ◌+◌, ◌<◌, ◌≤◌, Bool, true, List, [], ◌∷◌, ◌++◌, reverse, length, get_or, drop, Some, sym, refl, ap, ◌∙◌, subst, inl, inr, append_assoc, arith}
 use lib.Seq.{take-append_seam, drop-append-add}
-use Rattle.std.proofs.lemmas.List.{drop-drop, length-append, length-take-le, length-reverse, take-take, get_or-take}
+use Rattle.std.proofs.lemmas.List.{drop-drop, length-append, length-reverse}
 use Rattle.std.proofs.lemmas.Bool.{cases_Bool}
 use Rattle.std.proofs.lemmas.Bool.Decides.{nat_tests}
 use Rattle.model.specs.declared.items.Step.{Step}
-use Rattle.model.specs.Records.{Given, given_at}
+use Rattle.model.specs.Records.{Given}
 use Rattle.model.specs.Walks.{met, Distinct, links}
 use Rattle.model.specs.Paths.{Path, path, common, shared}
 use Rattle.model.specs.PathLaws.{Joins, meets, arrival, EndsKnown, WalkLaws}

@@ -1,5 +1,5 @@
 -- Writing into the places of a list, one after another. Assumes nothing.
-use Rattle.std.proofs.Common.{◌≡◌, ℕ, suc, ◌+◌, ◌<◌, ◌≤◌, List, [], ◌∷◌, ◌++◌, length, get_or, take, drop, set, sym, refl, ap, ◌∙◌, append_assoc, add-zero, arith, length-append, length-drop, length-take, drop-cons}
+use Rattle.std.proofs.Common.{◌≡◌, ℕ, suc, ◌+◌, ◌<◌, ◌≤◌, List, [], ◌∷◌, ◌++◌, length, get_or, take, drop, set, sym, ap, ◌∙◌, append_assoc, add-zero, arith, length-append, length-drop, drop-cons}
 use Rattle.std.proofs.lemmas.List.{take-append-drop, set_at, length_push, length-take-le}
 use Rattle.model.specs.WalkCalls.{placed}
 

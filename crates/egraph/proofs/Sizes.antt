@@ -1,5 +1,5 @@
 -- How many enodes there are, by the tables and by the case that they hold. Assumes nothing.
-use Rattle.std.proofs.Common.{◌≡◌, length, ap}
+use Rattle.std.proofs.Common.{◌≡◌, length}
 use Rattle.std.proofs.lemmas.List.{length-map}
 use Rattle.egraph.specs.declared.records.Records.{Records}
 use Rattle.egraph.specs.Table.{listed}

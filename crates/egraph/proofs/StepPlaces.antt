@@ -1,13 +1,13 @@
 -- The steps of a path, place by place. Assumes nothing.
-use Rattle.std.proofs.Common.{◌≡◌, ℕ, ◌+◌, ◌-◌, ◌<◌, ◌≤◌, true, false, List, [], ◌∷◌, ◌++◌, map, reverse, length, get_or, take, set, sym, refl, ap, ◌∙◌, zero-add, arith}
+use Rattle.std.proofs.Common.{◌≡◌, ℕ, ◌+◌, ◌-◌, ◌<◌, ◌≤◌, true, false, List, [], ◌∷◌, ◌++◌, map, reverse, length, get_or, take, set, sym, ap, ◌∙◌, arith}
 use Rattle.std.proofs.lemmas.List.{get_or-map, get_or-reverse, length-map, length-reverse, take_more, take_all, length-take-le}
 use Rattle.model.specs.declared.items.Step.{Step}
-use Rattle.model.specs.Records.{turn_step, turned}
+use Rattle.model.specs.Records.{turn_step}
 use Rattle.model.specs.Walks.{Links}
 use Rattle.model.specs.Paths.{up, given_of}
 use Rattle.model.specs.WalkCalls.{placed}
 use Rattle.egraph.specs.SimplePath.{rising_steps, falling_steps}
-use Rattle.egraph.proofs.Places.{placed_none, placed_push}
+use Rattle.egraph.proofs.Places.{placed_push}
 
 -- n places from `base` on, filled one after another
 module _ {T : Type 0} (base n : ℕ) (xs out : List T) (long : length xs ≡ n) where

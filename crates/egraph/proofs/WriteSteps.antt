@@ -1,10 +1,10 @@
 -- A path that was found over two walks, step by step. Assumes nothing.
-use Rattle.std.proofs.Common.{◌≡◌, ℕ, ◌+◌, ◌-◌, ◌<◌, ◌≤◌, Bool, List, [], ◌∷◌, ◌++◌, map, length, get_or, take, drop, Some, None, Option, sym, refl, ap, ◌∙◌, zero-add, arith}
-use Rattle.std.proofs.lemmas.List.{length-append, length-take-le, length-drop, take-take, get_or-take, length-map}
+use Rattle.std.proofs.Common.{◌≡◌, ℕ, ◌+◌, ◌-◌, ◌<◌, ◌≤◌, Bool, List, [], ◌++◌, length, take, drop, Some, None, Option, sym, ap, ◌∙◌, arith}
+use Rattle.std.proofs.lemmas.List.{length-append, length-take-le, length-drop, take-take, get_or-take}
 use Rattle.model.specs.declared.items.Pair.{Pair}
 use Rattle.model.specs.declared.items.Step.{Step}
-use Rattle.model.specs.Walks.{Links, links, root_walk, last}
-use Rattle.model.specs.Paths.{Path, path, join, shared, without_last, up}
+use Rattle.model.specs.Walks.{Links, links, last}
+use Rattle.model.specs.Paths.{path, join, shared, without_last}
 use Rattle.model.specs.WalkCalls.{placed, told_path}
 use Rattle.model.specs.Records.{Given}
 use Rattle.model.specs.PathLaws.{EndsKnown}
@@ -13,7 +13,7 @@ use Rattle.model.proofs.Links.{link_within}
 use Rattle.model.proofs.Walks.{Within, walk_below}
 use Rattle.model.proofs.PathLaws.{walks_lawful}
 use Rattle.egraph.specs.declared.path.SimplePath.{SimplePath}
-use Rattle.egraph.specs.SimplePath.{first_part, second_part, walk_from, walk_to, FoundPath, AllBelow, rising_steps, falling_steps}
+use Rattle.egraph.specs.SimplePath.{walk_from, walk_to, FoundPath, AllBelow, rising_steps, falling_steps}
 use Rattle.egraph.proofs.PathSteps.{path_short, shared_first, shared_second, placed_behind, below_at}
 use Rattle.egraph.proofs.StepPlaces.{rising_long, falling_long}
 

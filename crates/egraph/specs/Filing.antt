@@ -1,6 +1,5 @@
 -- The tables after a given is filed. Assumes nothing.
-use Rattle.std.specs.Prelude.{◌≡◌, ℕ, ◌+◌, ◌<◌, ◌≤◌, min, List, [], ◌∷◌, ◌++◌, length, Some, slice_index_or, slice_set}
-use Rattle.model.specs.declared.items.Pair.{Pair}
+use Rattle.std.specs.Prelude.{◌≡◌, ℕ, ◌+◌, ◌<◌, ◌≤◌, min, [], ◌∷◌, ◌++◌, length, Some, slice_index_or, slice_set}
 use Rattle.model.specs.declared.items.EqualityExpl.{EqualityExpl}
 use Rattle.model.specs.declared.items.EqualityExpl.TheVariants as expl
 use Rattle.model.specs.Records.{args_of}

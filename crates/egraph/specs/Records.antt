@@ -3,7 +3,6 @@ use Rattle.std.specs.Prelude.{◌≡◌, ℕ, suc, ◌+◌, ◌<◌, ◌≤◌, 
 use Rattle.model.specs.declared.items.Pair.{Pair}
 use Rattle.model.specs.Records as M
 use Rattle.model.specs.Records.{newest, arg_count}
-use Rattle.model.specs.PathLaws.{EndsKnown}
 use Rattle.egraph.specs.declared.enode.ENode.{ENode}
 use Rattle.egraph.specs.declared.equality.Given.{Given}
 use Rattle.egraph.specs.declared.equality.Kind.{Kind}

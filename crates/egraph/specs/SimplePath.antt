@@ -1,5 +1,5 @@
 -- Where the two walks of a pair stand in the scratch, and the path that they make. Assumes nothing.
-use Rattle.std.specs.Prelude.{◌≡◌, ℕ, ◌+◌, ◌<◌, ◌≤◌, List, map, length, take, drop, Some, None, Option, slice_index}
+use Rattle.std.specs.Prelude.{◌≡◌, ℕ, ◌+◌, ◌<◌, ◌≤◌, List, map, length, take, drop, Some, None, slice_index}
 use Rattle.model.specs.declared.items.Pair.{Pair}
 use Rattle.model.specs.Walks.{Links, root_walk, last}
 use Rattle.model.specs.declared.items.Step.{Step}

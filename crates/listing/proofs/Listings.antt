@@ -1,10 +1,10 @@
 -- A log that has been run up to some place. Assumes nothing.
-use Rattle.std.proofs.Common.{◌≡◌, ℕ, Bool, List, [], ◌∷◌, ◌++◌, length, Some, None, Ok, Err, Result, sym, refl, ap, ◌∙◌, subst, append_assoc, append-nil}
+use Rattle.std.proofs.Common.{◌≡◌, ℕ, Bool, List, [], ◌++◌, length, Some, None, Ok, Err, Result, sym, refl, ap, ◌∙◌, subst, append_assoc, append-nil}
 use Rattle.model.specs.Refusals.{Refusal}
 use Rattle.model.specs.Frames.{Frames}
 use Rattle.model.specs.Logging.{Case, empty_case}
 use Rattle.model.specs.Format.{Call}
-use Rattle.wordlog.specs.Log.{Next, next, moved, words_read, ragged_read}
+use Rattle.wordlog.specs.Log.{next, moved, words_read, ragged_read}
 use Rattle.lines.specs.Text.{refused_text, totals_text}
 use Rattle.listing.specs.Runs.{call_text, After, Prints, ends, stops, goes_on, Adds, Listed}
 use Rattle.listing.proofs.Calls.{moved_on, stopped}

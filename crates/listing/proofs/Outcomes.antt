@@ -6,7 +6,7 @@ use Rattle.model.specs.declared.items.Step.{Step}
 use Rattle.model.specs.declared.items.RootWalk.{RootWalk}
 use Rattle.model.specs.declared.error.Fault.{Fault}
 use Rattle.model.specs.Refusals.{Refusal, asked, for_pair, refusal_of, number_of}
-use Rattle.model.specs.Checks.{Check, require, all_known, unless_refused}
+use Rattle.model.specs.Checks.{Check, require, unless_refused}
 use Rattle.model.specs.Walks.{Links, root_walk}
 use Rattle.model.specs.Paths.{path}
 use Rattle.model.specs.WalkCalls.{long_enough, cleared, placed, told_walk, walk_checks, path_to_root, path_checks, told_path, path_call}

@@ -1,5 +1,5 @@
 -- The text of a reply, by what the calls wrote into the scratch. Assumes nothing.
-use Rattle.std.proofs.Common.{◌≡◌, ℕ, ◌+◌, ◌-◌, ◌<◌, ◌≤◌, Bool, cond, eqb, List, [], ◌∷◌, ◌++◌, length, get_or, take, drop, Some, None, Ok, Err, Option, Result, sym, refl, ap, ◌∙◌, subst, append_assoc, zero-add, arith}
+use Rattle.std.proofs.Common.{◌≡◌, ℕ, ◌+◌, ◌-◌, ◌<◌, ◌≤◌, Bool, cond, List, [], ◌++◌, length, get_or, take, drop, Some, None, Ok, Option, Result, sym, refl, ap, ◌∙◌, subst, append_assoc, zero-add, arith}
 use lib.Seq.{take-append_seam}
 use Rattle.std.proofs.lemmas.List.{get_or_append_left}
 use Rattle.std.proofs.lemmas.Bool.{ne_eqb}
@@ -20,7 +20,7 @@ use Rattle.egraph.proofs.PathSteps.{path_short, below_at}
 use Rattle.lines.specs.Text.{same_text, walk_text, path_text}
 use Rattle.listing.specs.Question.{walk_line, path_line, first_walk, second_walk, answer_text}
 use Rattle.listing.specs.Answers.{steps_shown, SomeWithin}
-use Rattle.listing.proofs.Outcomes.{passes, Known, PathTold, path_answered}
+use Rattle.listing.proofs.Outcomes.{passes, PathTold, path_answered}
 
 -- a walk that was answered: its length and what it tells, with its enodes in front
 pub record Walked (next : Links) (size : ℕ) (root : Option ℕ) (e : ℕ) (r : RootWalk) (out : List ℕ) : Type 0 where

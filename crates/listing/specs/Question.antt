@@ -1,7 +1,6 @@
 -- The text of a question and its answer. Assumes nothing.
-use Rattle.std.specs.Prelude.{ℕ, cond, List, ◌++◌, Some, None, Ok, Err, Option, Result, ◌==◌}
+use Rattle.std.specs.Prelude.{ℕ, cond, List, ◌++◌, Some, None, Ok, Err, Option, ◌==◌}
 use Rattle.model.specs.declared.items.Pair.{Pair}
-use Rattle.model.specs.Refusals.{Refusal}
 use Rattle.model.specs.Checks.{Check}
 use Rattle.model.specs.Walks.{Links, Walk, tells, root_walk, last}
 use Rattle.model.specs.Paths.{Path, path}

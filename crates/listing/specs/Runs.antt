@@ -1,6 +1,5 @@
 -- What a log prints, call by call. Assumes nothing.
 use Rattle.std.specs.Prelude.{◌≡◌, ℕ, Bool, false, List, [], ◌++◌, length, Some, None, Ok, Err, Result}
-use Rattle.model.specs.declared.items.Pair.{Pair}
 use Rattle.model.specs.Refusals.{Refusal}
 use Rattle.model.specs.Frames as frames
 use Rattle.model.specs.Walks.{links}

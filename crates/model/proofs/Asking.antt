@@ -11,7 +11,7 @@ use Rattle.model.specs.Walks.{Links}
 use Rattle.model.specs.Paths.{Path}
 use Rattle.model.specs.Memory.{Segment, step, entry, mark, Entry, Memory, stands, uses_of, entry_at, is_mark, turned_entry}
 use Rattle.model.specs.Reading.{reads, segment_steps, segments_steps}
-use Rattle.model.specs.Chains.{spans, chain}
+use Rattle.model.specs.Chains.{chain}
 use Rattle.model.specs.Acts.{Question, Act, Done, done, stop, pure}
 use Rattle.model.specs.Questions as Q
 use Rattle.model.specs.Questions.{Permission, Places, Reply, same, on_file, filed, filed_by, Found, none_found, entry_table, segment_table, pair_table, list_table, member_table, place_of, below, ask_at}

@@ -1,8 +1,8 @@
 -- Acts on what a case remembers: each answers something or refuses, may write, and tells the questions that were put. Assumes nothing.
-use Rattle.std.specs.Prelude.{ℕ, Bool, true, false, List, [], ◌∷◌, ◌++◌, length, Some, None, Option}
+use Rattle.std.specs.Prelude.{ℕ, Bool, true, false, List, [], ◌∷◌, ◌++◌, length, Option}
 use Rattle.model.specs.declared.items.Pair.{Pair}
 use Rattle.model.specs.Refusals.{Refusal}
-use Rattle.model.specs.Memory.{Entry, Use, Memory, uses_of, without}
+use Rattle.model.specs.Memory.{Entry, Memory, uses_of, without}
 
 -- a question that was put, nested or not: its pair and level, what was remembered when it was put, and the entry that it filed
 pub record Question : Type 0 where

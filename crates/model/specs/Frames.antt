@@ -1,5 +1,5 @@
 -- The frames of a case, by what a frame rule means. Assumes nothing.
-use Rattle.std.specs.Prelude.{◌≡◌, ℕ, ◌+◌, ◌-◌, ◌≤◌, Bool, true, false, cond, not, ◌&&◌, ◌||◌, List, [], ◌∷◌, ◌++◌, length, get_or, take, set, Ok, Err, Result, ◌==◌, nat_lt, slice_index_or, slice_set}
+use Rattle.std.specs.Prelude.{◌≡◌, ℕ, ◌+◌, ◌-◌, ◌≤◌, Bool, true, false, cond, not, ◌&&◌, ◌||◌, List, [], ◌∷◌, ◌++◌, length, get_or, take, Ok, Err, Result, ◌==◌, nat_lt, slice_index_or, slice_set}
 use Rattle.model.specs.declared.items.Frame.{Frame}
 use Rattle.model.specs.declared.error.TableName.TheVariants.{FrameCount}
 use Rattle.model.specs.Refusals.{Refusal, full, frame_limit, only_base}

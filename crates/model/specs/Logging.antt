@@ -1,5 +1,5 @@
 -- Logging enodes and givens. Assumes nothing.
-use Rattle.std.specs.Prelude.{ℕ, ◌+◌, min, Bool, true, false, cond, ◌&&◌, List, [], ◌∷◌, ◌++◌, length, Ok, Err, Option, Result, ◌==◌, nat_le, nat_lt}
+use Rattle.std.specs.Prelude.{ℕ, ◌+◌, min, Bool, ◌&&◌, List, [], ◌∷◌, ◌++◌, length, Ok, Err, Option, Result, ◌==◌, nat_le, nat_lt}
 use Rattle.model.specs.declared.items.Pair.{Pair}
 use Rattle.model.specs.declared.error.TableName.TheVariants.{Enodes, Givens, Arguments}
 use Rattle.model.specs.Records.{Enode, Kind, Given, Records, args_of, arg_count, oldest_from}

@@ -1,5 +1,5 @@
 -- What a case remembers: entries, use lists and standing pairs. Assumes nothing.
-use Rattle.std.specs.Prelude.{ℕ, suc, ◌+◌, Bool, true, false, cond, ◌&&◌, List, [], ◌∷◌, ◌++◌, length, Some, None, Option, ◌==◌}
+use Rattle.std.specs.Prelude.{ℕ, ◌+◌, Bool, true, false, cond, ◌&&◌, List, [], ◌∷◌, length, Some, None, Option, ◌==◌}
 use Rattle.model.specs.declared.items.Step.{Step}
 
 -- a step, with the number of its use list for a congruence; an earlier entry, straight or turned; a mark's first enode

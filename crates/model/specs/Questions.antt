@@ -2,7 +2,6 @@
 use Rattle.std.specs.Prelude.{ℕ, zero, suc, ◌+◌, ◌-◌, min, Bool, true, false, cond, ◌&&◌, List, [], ◌∷◌, ◌++◌, length, drop, Some, None, Option, ◌==◌, nat_le, nat_lt}
 use Rattle.model.specs.declared.items.Pair.{Pair}
 use Rattle.model.specs.declared.items.Step.{Step}
-use Rattle.model.specs.declared.items.Argument.{Argument}
 use Rattle.model.specs.Records.{Records, args_of, given_at}
 use Rattle.model.specs.Refusals.{Refusal}
 use Rattle.model.specs.Walks.{Links}
@@ -10,7 +9,7 @@ use Rattle.model.specs.Paths.{Path, path}
 use Rattle.model.specs.Memory.{Segment, step, entry, mark, Entry, Memory, stands, without, uses_of, entry_at, is_mark, turned_entry, segment_count, member_count}
 use Rattle.model.specs.Reading.{reads}
 use Rattle.model.specs.Chains.{Edge, kept, spans, chain}
-use Rattle.model.specs.Acts.{Question, Act, Done, done, stop, ◌>>=◌, ◌>>◌, pure, refuse_with, need, memory, drop_pair, put_entry, put_use, acts}
+use Rattle.model.specs.Acts.{Act, Done, done, stop, ◌>>=◌, ◌>>◌, pure, refuse_with, need, memory, drop_pair, put_entry, put_use, acts}
 
 -- may a pair without a path be marked: the pair asked for, and the arguments of its chain
 pub record Permission : Type 0 where

@@ -1,10 +1,10 @@
 -- What users may rely on over whole runs of calls, under every frame rule. Assumes nothing.
-use Rattle.std.specs.Prelude.{◌≡◌, ℕ, ◌+◌, ◌<◌, ◌≤◌, Bool, true, false, ◌⊎◌, List, [], ◌∷◌, ◌++◌, length, Some, None, Option, ◌≢◌, slice_index, slice_index_or}
+use Rattle.std.specs.Prelude.{◌≡◌, ℕ, ◌+◌, ◌<◌, ◌≤◌, true, false, ◌⊎◌, List, [], ◌∷◌, ◌++◌, length, Some, None, Option, ◌≢◌, slice_index, slice_index_or}
 use Rattle.model.specs.declared.items.Pair.{Pair}
 use Rattle.model.specs.declared.items.Step.{Step}
 use Rattle.model.specs.Records.{turned}
 use Rattle.model.specs.Refusals.{Refusal}
-use Rattle.model.specs.Walks.{Links, met, Distinct, root_walk, check_eq, NoCircle}
+use Rattle.model.specs.Walks.{met, Distinct, root_walk, check_eq, NoCircle}
 use Rattle.model.specs.Paths.{Path, path}
 use Rattle.model.specs.PathLaws.{Joins, Strikes, Bare}
 use Rattle.model.specs.Memory.{Segment, step, entry, mark, Entry, Use, Memory, stands, uses_of, entry_at, is_mark}
@@ -14,7 +14,7 @@ use Rattle.model.specs.Acts.{Question}
 use Rattle.model.specs.Format as F
 use Rattle.model.specs.Logging.{Room}
 use Rattle.model.specs.Questions.{Places}
-use Rattle.model.specs.Runs.{Scratch, Session, empty_session, links_of, Answer, same_enode, by_entry, refused, Turn, Move, play, reached, KeepsLaw}
+use Rattle.model.specs.Runs.{Scratch, Session, empty_session, links_of, same_enode, by_entry, refused, Turn, Move, play, reached}
 
 -- what holds of each question that was put
 abbrev pub Each : (Question → Type 0) → List Question → Type 0

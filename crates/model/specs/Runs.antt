@@ -1,6 +1,5 @@
 -- The five calls on a case that remembers, and runs of calls under any frame rule. Assumes nothing.
-use Rattle.std.specs.Prelude.{◌≡◌, ℕ, ◌+◌, ◌*◌, ◌/◌, ◌%◌, min, Bool, true, false, List, [], ◌∷◌, ◌++◌, length, Ok, Err, Result, ◌==◌}
-use Rattle.model.specs.declared.items.Pair.{Pair}
+use Rattle.std.specs.Prelude.{ℕ, ◌*◌, ◌/◌, ◌%◌, min, Bool, List, [], ◌∷◌, length, Ok, Err, ◌==◌}
 use Rattle.model.specs.Records.{arg_count}
 use Rattle.model.specs.Refusals.{Refusal, asked}
 use Rattle.model.specs.Frames as frames

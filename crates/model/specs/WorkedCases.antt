@@ -1,14 +1,11 @@
 -- Worked cases: what runs answer, and what they leave on file. Assumes nothing.
-use Rattle.std.specs.Prelude.{◌≡◌, ℕ, Bool, true, false, List, [], ◌∷◌, ◌++◌, map, Some, None, Option, ◌==◌}
+use Rattle.std.specs.Prelude.{◌≡◌, ℕ, true, false, List, [], ◌∷◌, ◌++◌, map, Some, None, ◌==◌}
 use Rattle.model.specs.declared.items.Pair.{Pair}
-use Rattle.model.specs.Records.{Kind, Root, Axiom, Congruence}
-use Rattle.model.specs.Refusals.{Refusal}
-use Rattle.model.specs.Memory.{Segment, step, entry, mark, Entry, Use, Standing, Memory, stands, nothing_filed}
+use Rattle.model.specs.Records.{Root, Axiom, Congruence}
+use Rattle.model.specs.Memory.{Segment, step, entry, mark, Entry, Standing, Memory, stands, nothing_filed}
 use Rattle.model.specs.Format as F
 use Rattle.model.specs.Format.{Call}
-use Rattle.model.specs.Logging.{Room}
-use Rattle.model.specs.Questions.{Places}
-use Rattle.model.specs.Runs.{Scratch, Session, empty_session, Answer, number, same_enode, by_entry, refused, Move, reached, answers}
+use Rattle.model.specs.Runs.{Session, empty_session, Answer, number, same_enode, by_entry, refused, Move, reached, answers}
 
 -- tables of 128 records, 512 for argument pairs, segments and use members, and scratch for that
 abbrev pub start : Session

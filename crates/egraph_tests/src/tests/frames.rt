@@ -1,8 +1,8 @@
 // Frames of a case: their numbers, their counts, and when one is refused.
 use super::support::*;
-use std::test::Fail;
 use egraph::egraph::EGraph;
 use frames::live::Live;
+use std::test::Fail;
 
 #[test]
 fn frames_open_and_close(rt: HostRuntime) -> Result<(), Fail> {

@@ -1,10 +1,10 @@
 // The limits of the tables, in tables that have places for more.
 use super::support::*;
-use std::test::Fail;
 use egraph::egraph::EGraph;
 use frames::every::Every;
 use frames::rule::FrameRule;
 use model::items::{ArgPairs, EqualityExpl};
+use std::test::Fail;
 
 #[test]
 fn enodes_and_givens(rt: HostRuntime) -> Result<(), Fail> {

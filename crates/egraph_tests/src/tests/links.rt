@@ -1,11 +1,11 @@
 // Which given an enode's link follows, and which one is answered for two enodes.
 use super::support::*;
-use std::test::Fail;
 use egraph::egraph::EGraph;
 use frames::every::Every;
 use frames::live::Live;
 use frames::rule::FrameRule;
 use std::process::Abort;
+use std::test::Fail;
 
 // The second enode of the walk from 0, after a given 0→1, and 0→2 in a frame that is closed again.
 fn second_after_closing<R: FrameRule>(

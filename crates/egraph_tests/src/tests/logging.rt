@@ -1,9 +1,9 @@
 // Logging: a table that is full, enodes that are not on the books, and the order of the checks.
 use super::support::*;
-use std::test::Fail;
 use egraph::egraph::EGraph;
 use frames::live::Live;
 use model::items::{ArgPairs, EqualityExpl};
+use std::test::Fail;
 
 fn congruence(from: u32, to: u32, words: &[u32]) -> EqualityExpl<'_> {
     EqualityExpl::Congruence {

@@ -1,8 +1,8 @@
 // Paths: the steps and their directions, and pairs that have none.
 use super::support::*;
-use std::test::Fail;
 use egraph::egraph::EGraph;
 use frames::every::Every;
+use std::test::Fail;
 
 // 0→1→2 and 3→4→2, 5 apart: up two steps, then down two.
 #[test]

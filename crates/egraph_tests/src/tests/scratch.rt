@@ -1,8 +1,8 @@
 // Scratch and output that are too short: marks first, then walks, then steps, and only then the enodes.
 use super::support::*;
-use std::test::Fail;
 use egraph::egraph::EGraph;
 use frames::live::Live;
+use std::test::Fail;
 
 #[test]
 fn a_walk_needs_places(rt: HostRuntime) -> Result<(), Fail> {

@@ -1,8 +1,8 @@
 // Root walks: circles, a root that is told, and what is written where.
 use super::support::*;
-use std::test::Fail;
 use egraph::egraph::EGraph;
 use frames::live::Live;
+use std::test::Fail;
 
 // 3→0→1→2→0 and 4→5→4: a walk tells the enode of the circle that it comes to first.
 #[test]

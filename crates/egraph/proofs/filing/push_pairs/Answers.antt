@@ -1,4 +1,4 @@
-use Rattle.std.proofs.Common.{◌≡◌, [], ◌∷◌, ◌++◌, length, sym, ap, ◌∙◌, append_assoc, arith}
+use Rattle.std.proofs.Common.{[], ◌∷◌, ◌++◌, length, sym, ap, ◌∙◌, append_assoc, arith}
 use Rattle.model.specs.Explanations.{pairs_of}
 use Rattle.egraph.specs.Table.{listed}
 use Rattle.egraph.proofs.filing.push_pairs.Goals as goal

@@ -1,4 +1,4 @@
-use Rattle.std.proofs.Common.{◌≡◌, ◌+◌, ◌≤◌, ◌++◌, length}
+use Rattle.std.proofs.Common.{◌≡◌, ◌+◌, ◌++◌, length}
 use Rattle.model.specs.Explanations.{pairs_of}
 use Rattle.egraph.specs.Table.{listed, places}
 use Rattle.egraph.proofs.filing.push_pairs.Given as goal

@@ -1,4 +1,4 @@
-use Rattle.std.proofs.Common.{◌≡◌, sym, ◌∙◌, rules}
+use Rattle.std.proofs.Common.{rules}
 use Rattle.model.specs.Explanations.{from_of, to_of, kind_of}
 use Rattle.egraph.proofs.GivenChecks.{checks_filed}
 use Rattle.egraph.proofs.egraph.EGraph.check_given.Goals as goal

@@ -1,4 +1,4 @@
-use Rattle.std.proofs.Common.{◌≡◌, ap, rules}
+use Rattle.std.proofs.Common.{ap, rules}
 use Rattle.egraph.proofs.TwoWalks.{roots_differ, roots_meet}
 use Rattle.egraph.proofs.egraph.EGraph.get_simple_path.Goals as goal
 

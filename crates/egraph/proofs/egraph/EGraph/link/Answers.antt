@@ -1,4 +1,4 @@
-use Rattle.std.proofs.Common.{sym, ◌∙◌}
+use Rattle.std.proofs.Common.{sym}
 use Rattle.egraph.proofs.GivenList.{found_in_table, older_falls}
 use Rattle.egraph.proofs.LinkSearch.{search_start, no_link_left, link_found, link_older}
 use Rattle.egraph.proofs.egraph.EGraph.link.Goals as goal

@@ -1,4 +1,3 @@
-use Rattle.std.proofs.Common.{◌≡◌, sym, refl, ap, ◌∙◌}
 use Rattle.model.specs.Explanations.{from_of, to_of, kind_of}
 use Rattle.egraph.proofs.GivenChecks.{passed}
 use Rattle.egraph.proofs.GivenFiled.{given_outcome, arguments_filed, ends_filed, in_lists}

@@ -1,4 +1,4 @@
-use Rattle.std.proofs.Common.{◌≡◌, sym, ap, ◌∙◌, rules}
+use Rattle.std.proofs.Common.{sym, ap, ◌∙◌, rules}
 use Rattle.model.specs.declared.items.Pair.{Pair}
 use Rattle.model.specs.Refusals.{asked}
 use Rattle.model.specs.WalkCalls.{told_path}

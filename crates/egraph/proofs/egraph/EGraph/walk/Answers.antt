@@ -1,4 +1,4 @@
-use Rattle.std.proofs.Common.{◌≡◌, ◌≤◌, length, sym, refl, ◌∙◌, arith, length-set, rules}
+use Rattle.std.proofs.Common.{◌≤◌, length, sym, refl, ◌∙◌, arith, length-set, rules}
 use Rattle.model.proofs.Links.{link_within}
 use Rattle.egraph.specs.View.{size}
 use Rattle.egraph.proofs.OnWalk.{walk_start, walk_again, walk_stops, walk_ends, walk_on}

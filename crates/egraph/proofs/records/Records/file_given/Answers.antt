@@ -1,6 +1,6 @@
 use Rattle.std.proofs.Common.{◌≡◌, ◌<◌, [], ◌∷◌, ◌++◌, length, get_or, sym, ap, ◌∙◌, arith}
 use Rattle.std.proofs.lemmas.List.{length-take-le, get_or-take}
-use Rattle.model.specs.Explanations.{from_of, pairs_of}
+use Rattle.model.specs.Explanations.{from_of}
 use Rattle.egraph.specs.Table.{listed}
 use Rattle.egraph.specs.Records.{no_enode}
 use Rattle.egraph.specs.Filing.{enode_under}

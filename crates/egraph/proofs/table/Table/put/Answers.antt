@@ -1,4 +1,4 @@
-use Rattle.std.proofs.Common.{sym, refl, ◌∙◌, length-set}
+use Rattle.std.proofs.Common.{refl, length-set}
 use lib.Seq.{take-set-lt}
 use Rattle.egraph.proofs.table.Table.put.Goals as goal
 
