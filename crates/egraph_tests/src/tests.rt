@@ -1,5 +1,5 @@
 // What the calls on a case answer on examples, and what they refuse.
-mod frames;
+mod frame_calls;
 mod limits;
 mod links;
 mod logging;
