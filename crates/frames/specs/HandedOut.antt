@@ -1,5 +1,5 @@
 -- What the calls on a table of frames come to, where every number handed out counts.
-use Rattle.std.specs.Prelude.{◌≡◌, ℕ, ◌+◌, ◌-◌, ◌<◌, Bool, true, false, cond, ◌&&◌, ◌||◌, ltb, ◌≢◌, length, IfErr, Ok, Err, Result, ◌==◌, nat_lt, slice_index_or, slice_set, refl}
+use Rattle.std.specs.Prelude.{◌≡◌, ℕ, ◌+◌, ◌-◌, ◌<◌, ◌≤◌, Bool, true, false, cond, ◌&&◌, ◌||◌, ltb, ◌≢◌, length, IfErr, Ok, Err, Result, ◌==◌, nat_lt, slice_index_or, slice_set, refl}
 use Rattle.std.proofs.Common.{sym, ap, subst, ◌∙◌, inl, inr, arith}
 use Rattle.std.proofs.Math.Path.{fun_ext}
 use Rattle.std.proofs.Math.Bool.{and-true}
@@ -40,6 +40,10 @@ by_test false x more t e m s h u (Err f) q = record {
 below_more : (f n : ℕ) → nat_lt f (n + 1) ≡ (nat_lt f n || f == n)
 below_more f n = grind (arith, nat_tests)
 
+-- the limit of every rule over such a table
+pub table_limited : (1 ≤ 64) × (64 ≤ 64)
+table_limited = (omega arith, omega arith)
+
 module _ (t : FrameTable) (s : Sound t) where
   abbrev m : Frames
   m = handed_out t
@@ -52,6 +56,9 @@ module _ (t : FrameTable) (s : Sound t) where
 
   pub table_within : Within 64 m
   table_within = rw opened_length (s.1, s.2, rw (get_or-take t.len t.frames 0 no_frame s.1) s.3)
+
+  pub table_lawful : Lawful m
+  table_lawful = s.4
 
   -- one frame more
   more_means : t.len < 64 → handed_out (with_more t) ≡ opened_more m

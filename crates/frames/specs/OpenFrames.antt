@@ -7,6 +7,7 @@ use Rattle.std.proofs.lemmas.Bool.Decides.{nat_tests}
 use Rattle.model.specs.declared.items.Frame.{Frame}
 use Rattle.model.specs.Refusals.{Refusal}
 use Rattle.model.specs.Frames.{Frames, Lawful, no_frame, is_open, current, counted, opened_more, counted_more, closed, open_frame, log_frame}
+use Rattle.frames.specs.Tables.{open_only}
 
 pub open_push : (f : ℕ) (os : List Frame) (o : Frame) → is_open f (os ++ (o ∷ [])) ≡ (is_open f os || f == o.number)
 open_push f [] o = grind (arith, nat_tests)
@@ -48,6 +49,13 @@ counted_lawful m l f e = l f (rw (open_counted f m.opened) at e)
 
 pub less_lawful : (m : Frames) → Lawful m → Lawful (closed (λ _. false) m)
 less_lawful m l f e = rw (l f (open_take f (length m.opened - 1) m.opened e))
+
+-- where the open frames count, alone or with one more
+pub open_only_lawful : (m : Frames) → Lawful (open_only m)
+open_only_lawful m f e = e
+
+pub open_also_lawful : (m : Frames) (last : ℕ) → Lawful (record { opened = m.opened; next = m.next; counts = λ f. is_open f m.opened || (f == last) })
+open_also_lawful m last f e = grind (arith, nat_tests, e)
 
 -- what holds after a call is shown where it is granted and where it is refused
 after : (P : Frames → Type 0) (test : Bool) (granted refused : Result ℕ Refusal × Frames) → P granted.1 → P refused.1 → P (cond test granted refused).1

@@ -2,8 +2,7 @@
 ghost use Rattle.std.specs.Prelude.{◌≡◌, false};
 ghost use Rattle.model.specs.Frames.{base};
 ghost use Rattle.frames.specs.Tables.{Sound, handed_out};
-ghost use Rattle.frames.specs.HandedOut.{table_within};
-ghost use Rattle.std.proofs.Common.{rules, arith};
+ghost use Rattle.frames.specs.HandedOut.{table_lawful, table_limited, table_within};
 
 use crate::rule::FrameRule;
 use crate::table::FrameTable;
@@ -32,11 +31,11 @@ impl FrameRule for Every {
 
     ghost leaves = { λ _ _. false };
 
-    ghost limited = { first_of (Prim.search rules, Prim.grind (arith, Self.row.coded.inj)) };
+    ghost limited = { table_limited };
 
     ghost within = { λ s. table_within s.table s.ok };
 
-    ghost lawful = { first_of (Prim.search rules, Prim.grind (arith, Self.row.coded.inj)) };
+    ghost lawful = { λ s. table_lawful s.table s.ok };
 
     fn counts(&self, frame: u32) -> bool {
         frame < self.table.next

@@ -2,8 +2,8 @@
 ghost use Rattle.std.specs.Prelude.{◌≡◌};
 ghost use Rattle.model.specs.Frames.{base};
 ghost use Rattle.frames.specs.Tables.{Sound, handed_out, open_only, not_below};
-ghost use Rattle.frames.specs.HandedOut.{table_within};
-ghost use Rattle.std.proofs.Common.{rules, arith};
+ghost use Rattle.frames.specs.HandedOut.{table_limited, table_within};
+ghost use Rattle.frames.specs.OpenFrames.{open_only_lawful};
 
 use crate::rule::FrameRule;
 use crate::table::FrameTable;
@@ -32,11 +32,11 @@ impl FrameRule for Live {
 
     ghost leaves = { λ s. not_below (handed_out s.table) };
 
-    ghost limited = { first_of (Prim.search rules, Prim.grind (arith, Self.row.coded.inj)) };
+    ghost limited = { table_limited };
 
     ghost within = { λ s. table_within s.table s.ok };
 
-    ghost lawful = { first_of (Prim.search rules, Prim.grind (arith, Self.row.coded.inj)) };
+    ghost lawful = { λ s. open_only_lawful (handed_out s.table) };
 
     fn counts(&self, frame: u32) -> bool {
         self.table.is_open(frame)

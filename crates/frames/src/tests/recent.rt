@@ -2,8 +2,8 @@
 ghost use Rattle.std.specs.Prelude.{not, ◌||◌, ◌==◌};
 ghost use Rattle.model.specs.Frames.{is_open};
 ghost use Rattle.frames.specs.Tables.{Sound, handed_out};
-ghost use Rattle.frames.specs.HandedOut.{table_within};
-ghost use Rattle.std.proofs.Common.{rules, arith};
+ghost use Rattle.frames.specs.HandedOut.{table_limited, table_within};
+ghost use Rattle.frames.specs.OpenFrames.{open_also_lawful};
 
 use crate::rule::FrameRule;
 use crate::table::FrameTable;
@@ -32,11 +32,11 @@ impl FrameRule for Recent {
 
     ghost leaves = { λ s f. not (is_open f (handed_out s.table).opened) };
 
-    ghost limited = { first_of (Prim.search rules, Prim.grind (arith, Self.row.coded.inj)) };
+    ghost limited = { table_limited };
 
     ghost within = { λ s. table_within s.table s.ok };
 
-    ghost lawful = { first_of (Prim.search rules, Prim.grind (arith, Self.row.coded.inj)) };
+    ghost lawful = { λ s. open_also_lawful (handed_out s.table) s.closed };
 
     fn counts(&self, frame: u32) -> bool {
         self.table.is_open(frame) || frame == self.closed
