@@ -82,10 +82,10 @@ module _ (next : Links) (size : ℕ) (p : Pair) (walks : List ℕ) (s : SimplePa
     steps_written base count at is out once twice fits first second =
         let R = rising_steps next (take n walks) in
         let L = falling_steps next (take m (drop s.from_to_root walks)) in
-        let r-long = rising_long next (take n walks) ∙ rising_count in
-        let l-long = falling_long next (take m (drop s.from_to_root walks)) ∙ falling_count in
+        let r_long = rising_long next (take n walks) ∙ rising_count in
+        let l_long = falling_long next (take m (drop s.from_to_root walks)) ∙ falling_count in
         let all : twice ≡ placed 0 (join next F T).steps out =
-        second ∙ ap (placed base L) first ∙ placed_behind R L out base (at ∙ sym r-long) (omega arith) ∙ ap (λ ss. placed 0 ss out) steps_are in
+        second ∙ ap (placed base L) first ∙ placed_behind R L out base (at ∙ sym r_long) (omega arith) ∙ ap (λ ss. placed 0 ss out) steps_are in
         let long : count ≡ length (join next F T).steps = is ∙ sym steps_long in
         (λ i. (Some (long i), all i)) ∙ ap (λ o. told_path o out) (sym f.is)
 

@@ -35,19 +35,19 @@ module _ (next : Links) (size : ℕ) (within : Within next size) where
       ◌≡◌ {A = Result RootWalk Refusal × (List ℕ × List ℕ)} (Ok r, (marks', out')) (path_to_root next size e root marks out) → Walked next size root e r out'
   walked e root marks out r marks' out' low fits h =
       let w = root_walk next size root e in
-      let base-fits : 0 + size ≤ length out = omega arith in
+      let base_fits : 0 + size ≤ length out = omega arith in
       let answer = (passes (walk_checks size e root (length marks) (length out)) (marks, out) (Ok (told_walk w), (cleared marks, placed 0 w.enodes out)) r (marks', out') h).1 in
       let first = ap (λ x. x.0) answer in
       let is : r ≡ told_walk w = cc in
       let wrote : out' ≡ placed 0 w.enodes out = ap (λ x. x.1.1) answer in
       let some = walk_some next size root e low in
       let end : get_or (placed 0 w.enodes out) (length w.enodes - 1) 0 ≡ last e w.enodes =
-      ap (λ n. get_or (placed 0 w.enodes out) n 0) (sym (zero-add (length w.enodes - 1))) ∙ written_end next size root e low 0 out base-fits in
+      ap (λ n. get_or (placed 0 w.enodes out) n 0) (sym (zero-add (length w.enodes - 1))) ∙ written_end next size root e low 0 out base_fits in
       let here : get_or out' (r.len - 1) 0 ≡ get_or (placed 0 w.enodes out) (length w.enodes - 1) 0 = λ i. get_or (wrote i) ((is i).len - 1) 0 in
       record {
         some = omega (arith, some, ap (λ (x : RootWalk). x.len) is);
         few = omega (arith, walk_few next size root e low, ap (λ (x : RootWalk). x.len) is);
-        line = (λ i. walk_text (take (is i).len (wrote i)) (is i).tells) ∙ ap (λ es. walk_text es (told_walk w).tells) (written_part next size root e low 0 out base-fits);
+        line = (λ i. walk_text (take (is i).len (wrote i)) (is i).tells) ∙ ap (λ es. walk_text es (told_walk w).tells) (written_part next size root e low 0 out base_fits);
         end = here ∙ end;
         end_known =
             subst (λ n. n < size) (sym (here ∙ get_or_append_left w.enodes (drop (0 + length w.enodes) out) 0 (length w.enodes - 1) (omega (arith, some))))
@@ -63,9 +63,9 @@ steps_told (Some p) out count steps h =
 -- and there are no more of them than enodes
 pub steps_few : (counts : ℕ → Bool) (gs : List Given) (size limit : ℕ) → WalkLaws counts gs size → EndsKnown gs size → (p : Pair) → p.from < size → p.to < size → size ≤ limit →
     (o : Option Path) → path (links counts gs) size p.from p.to ≡ o → (out : List Step) (count : Option ℕ) (steps : List Step) → ◌≡◌ {A = Option ℕ × List Step} (count, steps) (told_path o out) → SomeWithin limit count
-steps_few counts gs size limit laws known p low-from low-to few None is out count steps h = subst (SomeWithin limit) (sym (ap (λ x. x.0) h)) tt
-steps_few counts gs size limit laws known p low-from low-to few (Some q) is out count steps h =
-    subst (SomeWithin limit) (sym (ap (λ x. x.0) h)) (omega (arith, path_short counts gs size laws known p.from p.to low-from low-to q is))
+steps_few counts gs size limit laws known p low_from low_to few None is out count steps h = subst (SomeWithin limit) (sym (ap (λ x. x.0) h)) tt
+steps_few counts gs size limit laws known p low_from low_to few (Some q) is out count steps h =
+    subst (SomeWithin limit) (sym (ap (λ x. x.0) h)) (omega (arith, path_short counts gs size laws known p.from p.to low_from low_to q is))
 
 -- the lines of two walks and of the path
 pub answer_shown : (next : Links) (size : ℕ) (p : Pair) (first second : RootWalk) (one two : List ℕ) (root : ℕ) (count : Option ℕ) (steps out : List Step) → (p.from ≡ p.to → ⊥) →
@@ -73,8 +73,8 @@ pub answer_shown : (next : Links) (size : ℕ) (p : Pair) (first second : RootWa
     ◌≡◌ {A = Option ℕ × List Step} (count, steps) (told_path (path next size p.from p.to) out) →
     walk_text (take first.len one) first.tells ++ (walk_text (take second.len two) second.tells ++ steps_shown count steps) ≡ answer_text next size p
 answer_shown next size p first second one two root count steps out other w root_is v told =
-    let second-line : walk_text (take second.len two) second.tells ≡ walk_line (second_walk next size p) = v.line ∙ ap (λ r. walk_line (root_walk next size (Some r) p.to)) (root_is ∙ w.end) in
-    (λ i. w.line i ++ (second-line i ++ steps_told (path next size p.from p.to) out count steps told i))
+    let second_line : walk_text (take second.len two) second.tells ≡ walk_line (second_walk next size p) = v.line ∙ ap (λ r. walk_line (root_walk next size (Some r) p.to)) (root_is ∙ w.end) in
+    (λ i. w.line i ++ (second_line i ++ steps_told (path next size p.from p.to) out count steps told i))
     ∙ ap (λ b. cond b (same_text p.from) (walk_line (first_walk next size p) ++ (walk_line (second_walk next size p) ++ path_line (path next size p.from p.to)))) (sym (ne_eqb p.from p.to other))
 
 -- links lead to enodes on the books

@@ -200,11 +200,11 @@ module _ (next : Links) (records : Records) (places : Places) where
 
           settled_does : (segs ts : List Segment) (m : Memory) {n : Memory} → Sound n → Longer m.entries n.entries → Says m.entries ss segs ss → Settled segs ts n →
               Answers before (Q.file next records places level p (record { segments = ts; count = length ss; last = p.to })) n
-          settled_does segs ts m {n} s l h (cites, same-bare) =
+          settled_does segs ts m {n} s l h (cites, same_bare) =
               let e : Entry = record { segments = ts; count = length ss; last = p.to } in
-              let plain : is_mark ts ≡ false = sym (is_mark_bare ts) ∙ ap is_mark same-bare ∙ is_mark_bare segs ∙ no_mark (length m.entries) segs h.filed in
+              let plain : is_mark ts ≡ false = sym (is_mark_bare ts) ∙ ap is_mark same_bare ∙ is_mark_bare segs ∙ no_mark (length m.entries) segs h.filed in
               let read : segments_steps (reads n.entries) ts ≡ ss =
-              sym (bare_steps (reads n.entries) ts) ∙ ap (segments_steps (reads n.entries)) same-bare ∙ bare_steps (reads n.entries) segs ∙ stable l segs h.filed ∙ h.is in
+              sym (bare_steps (reads n.entries) ts) ∙ ap (segments_steps (reads n.entries)) same_bare ∙ bare_steps (reads n.entries) segs ∙ stable l segs h.filed ∙ h.is in
               let newest = newest_entry e n.entries in
               file_does before e s cites (λ q. absurd (both_ways (is_mark ts) plain q)) (record {
                 answers = record { from_known = from_known; to_known = to_known; on_file = omega arith; says = explains way is (reads_newest e n.entries ∙ read) (ap (λ (x : Entry). is_mark x.segments) newest ∙ plain) };

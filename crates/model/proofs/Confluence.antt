@@ -37,22 +37,22 @@ same_way_on next e [] (y ∷ ys) f g d c h = let m = met_last y ys in absurd (gr
 same_way_on next e (x ∷ xs) [] f g d c h = let m = met_last x xs in absurd (grind (arith, nat_tests))
 same_way_on next e (x ∷ xs) (y ∷ ys) (l, p, _, f) (k, q, _, g) d c h =
     let one : Some l ≡ Some k = sym p ∙ q in
-    let x-is : x ≡ l.to = follows_head next l.to x xs f in
-    let y-is : y ≡ k.to = follows_head next k.to y ys g in
+    let x_is : x ≡ l.to = follows_head next l.to x xs f in
+    let y_is : y ≡ k.to = follows_head next k.to y ys g in
     let same : y ≡ x = cc in
     let g' : Follows next x (x ∷ ys) = subst (λ z. Follows next z (z ∷ ys)) same (follows_from next k.to y [] ys g) in
     let c' : Distinct (x ∷ ys) = subst (λ z. Distinct (z ∷ ys)) same c.1 in
     let ih : xs ≡ ys = same_way_on next x xs ys (follows_from next l.to x [] xs f) g' d.1 c' (h ∙ ap (λ z. last z ys) same) in
     cc
 
-module _ (next : Links) (b : ℕ) (t : List ℕ) (from-b : Follows next b t) (once : Distinct t) where
+module _ (next : Links) (b : ℕ) (t : List ℕ) (from_b : Follows next b t) (once : Distinct t) where
   met_there : (a x : ℕ) (xs : List ℕ) → Follows next a (x ∷ xs) → Distinct (x ∷ xs) → last x xs ≡ last b t → met x t ≡ true → Confluent (x ∷ xs) t
-  met_there a x xs from-a d ends here =
+  met_there a x xs from_a d ends here =
       let s = split x t here in
       let parts = distinct_parts s.front (x ∷ s.back) (rw s.is at once) in
-      let back : Follows next x (x ∷ s.back) = follows_from next b x s.front s.back (rw s.is at from-b) in
+      let back : Follows next x (x ∷ s.back) = follows_from next b x s.front s.back (rw s.is at from_b) in
       let alike : last x xs ≡ last x s.back = ends ∙ ap (last b) s.is ∙ last_append b x s.front s.back in
-      let same : xs ≡ s.back = same_way_on next x xs s.back (follows_from next a x [] xs from-a) back d parts.1 alike in
+      let same : xs ≡ s.back = same_way_on next x xs s.back (follows_from next a x [] xs from_a) back d parts.1 alike in
       record { rising = []; falling = s.front; top = x; tail = s.back; first_is = ap (λ r. x ∷ r) same; second_is = s.is; apart = λ z h. grind arith }
 
   not_yet : (x : ℕ) (xs : List ℕ) → met x t ≡ false → Confluent xs t → Confluent (x ∷ xs) t
@@ -72,10 +72,10 @@ module _ (next : Links) (b : ℕ) (t : List ℕ) (from-b : Follows next b t) (on
 
   -- lists that follow the links, have no enode twice and end alike are confluent
   pub confluent : (a x : ℕ) (xs : List ℕ) → Follows next a (x ∷ xs) → Distinct (x ∷ xs) → last x xs ≡ last b t → met (last x xs) t ≡ true → Confluent (x ∷ xs) t
-  confluent a x [] from-a d ends shares = met_there a x [] from-a d ends shares
-  confluent a x (y ∷ ys) from-a d ends shares = elim (cases_Bool (met x t)) [
-    | inl here ↦ met_there a x (y ∷ ys) from-a d ends here
-    | inr ne ↦ not_yet x (y ∷ ys) ne (confluent from-a.0.to y ys from-a.3 d.1 ends shares)
+  confluent a x [] from_a d ends shares = met_there a x [] from_a d ends shares
+  confluent a x (y ∷ ys) from_a d ends shares = elim (cases_Bool (met x t)) [
+    | inl here ↦ met_there a x (y ∷ ys) from_a d ends here
+    | inr ne ↦ not_yet x (y ∷ ys) ne (confluent from_a.0.to y ys from_a.3 d.1 ends shares)
   ]
 
 -- the common tail of confluent lists
@@ -115,8 +115,8 @@ join_parts next rising falling tail top apart =
     let n = shared_tail rising falling (top ∷ tail) apart in
     let rise = without_tail rising (top ∷ tail) in
     let fall = without_tail falling (top ∷ tail) in
-    let to-top = up_to_top rising tail top in
-    rw n (λ i. record { enodes = to-top i ++ reverse (fall i); steps = map (up next) (rise i) ++ turned (map (up next) (fall i)) })
+    let to_top = up_to_top rising tail top in
+    rw n (λ i. record { enodes = to_top i ++ reverse (fall i); steps = map (up next) (rise i) ++ turned (map (up next) (fall i)) })
 
 -- the path that joins confluent lists is over their top
 pub join_over : (next : Links) (f t : List ℕ) (m : Confluent f t) → join next f t ≡ over next m.rising m.top m.falling

@@ -49,11 +49,11 @@ module _ (before : Memory) (p : Pair) (way : Path) (laid : Laid p way) where
     standing = λ a b k d ke. elim (cases_Bool (eqb (at i) (at a) && eqb (at j) (at b))) [
       | inl e ↦
           let p = and_parts (eqb (at i) (at a)) (eqb (at j) (at b)) e in
-          let same-a : i ≡ a = distinct_at way.enodes laid.once i a (omega arith) (omega (arith, ke.first)) (eqb-true _ _ p.0) in
-          let same-b : j ≡ b = distinct_at way.enodes laid.once j b (omega arith) (omega (arith, ke.second)) (eqb-true _ _ p.1) in
-          let ke' : Keepable before way i j k d = subst (λ x. Keepable before way x j k d) (sym same-a) (subst (λ y. Keepable before way a y k d) (sym same-b) ke) in
-          let same-n : Some n ≡ Some k = keepable_here m h i j (Some n) s k d ke' in
-          let k-none : held i j k ≡ None = subst (λ x. held i j x ≡ None) (let z : n ≡ k = cc in z) none in
+          let same_a : i ≡ a = distinct_at way.enodes laid.once i a (omega arith) (omega (arith, ke.first)) (eqb-true _ _ p.0) in
+          let same_b : j ≡ b = distinct_at way.enodes laid.once j b (omega arith) (omega (arith, ke.second)) (eqb-true _ _ p.1) in
+          let ke' : Keepable before way i j k d = subst (λ x. Keepable before way x j k d) (sym same_a) (subst (λ y. Keepable before way a y k d) (sym same_b) ke) in
+          let same_n : Some n ≡ Some k = keepable_here m h i j (Some n) s k d ke' in
+          let k_none : held i j k ≡ None = subst (λ x. held i j x ≡ None) (let z : n ≡ k = cc in z) none in
           absurd (let w = ke'.is_kept in let z : ◌≡◌ {A = ℕ} 0 1 = cc in omega arith)
       | inr e ↦ without_other m.standing (at i) (at j) (at a) (at b) e ∙ h.standing a b k d ke
     ];

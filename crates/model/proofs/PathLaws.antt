@@ -39,19 +39,19 @@ module _ (next : Links) (size : ℕ) (within : Within next size) where
 
     ends_share : f ≡ last b T → shares (W a) (W b) ≡ true
     ends_share e =
-        let up-b : Ancestor next b f = follows_ancestor next b f T (walk_follows next (Some f) size [] b) (rw e (walk_has_last next (Some f) size b lb)) in
-        shares_from f (W a) (W b) (walk_has_last next None size a la) (has_ancestors b f lb up-b)
+        let up_b : Ancestor next b f = follows_ancestor next b f T (walk_follows next (Some f) size [] b) (rw e (walk_has_last next (Some f) size b lb)) in
+        shares_from f (W a) (W b) (walk_has_last next None size a la) (has_ancestors b f lb up_b)
 
     share_ends : shares (W a) (W b) ≡ true → f ≡ last b T
     share_ends h =
         let s = shared_by (W a) (W b) h in
         let z = s.0 in
-        let up-b : Ancestor next b f = ancestor_trans next b z f (follows_ancestor next b z (W b) (walk_follows next None size [] b) s.2) (last_ancestor next a z (W a) (walk_follows next None size [] a) s.1) in
+        let up_b : Ancestor next b f = ancestor_trans next b z f (follows_ancestor next b z (W b) (walk_follows next None size [] b) s.2) (last_ancestor next a z (W a) (walk_follows next None size [] a) s.1) in
         let there : met f T ≡ true = elim (cases_Bool (met f T)) [
           | inl e ↦ e
           | inr e ↦
               let closed : Closed next T = walk_closed next (Some f) size within b lb (λ x m. grind (arith, nat_tests)) in
-              closed_ancestor next T closed b f up-b (walk_has_first next (Some f) size b lb)
+              closed_ancestor next T closed b f up_b (walk_has_first next (Some f) size b lb)
         ] in
         root_last next (Some f) size [] b f there (eq-eqb f f refl)
 
@@ -89,20 +89,20 @@ module _ (next : Links) (size : ℕ) (within : Within next size) where
       let tail = m.together.tail in
       let first = m.together.first_is in
       let second = m.together.second_is in
-      let from-a : Follows next a (rising ++ (top ∷ tail)) = subst (Follows next a) first m.from_first in
-      let from-b : Follows next b (falling ++ (top ∷ tail)) = subst (Follows next b) second m.from_second in
-      let in-a = met_append top rising (top ∷ tail) in
+      let from_a : Follows next a (rising ++ (top ∷ tail)) = subst (Follows next a) first m.from_first in
+      let from_b : Follows next b (falling ++ (top ∷ tail)) = subst (Follows next b) second m.from_second in
+      let in_a = met_append top rising (top ∷ tail) in
       let in_b = met_append top falling (top ∷ tail) in
       record {
-        of_first = follows_ancestor next a top (rising ++ (top ∷ tail)) from-a (grind (arith, nat_tests));
-        of_second = follows_ancestor next b top (falling ++ (top ∷ tail)) from-b (grind (arith, nat_tests));
-        nearest = λ z above-a above-b.
-            let z-a : met z (rising ++ (top ∷ tail)) ≡ true = subst (λ w. met z w ≡ true) first (has_ancestors a z la above-a) in
-            let z-b : met z (falling ++ (top ∷ tail)) ≡ true = subst (λ w. met z w ≡ true) second (has_ancestors b z lb above-b) in
+        of_first = follows_ancestor next a top (rising ++ (top ∷ tail)) from_a (grind (arith, nat_tests));
+        of_second = follows_ancestor next b top (falling ++ (top ∷ tail)) from_b (grind (arith, nat_tests));
+        nearest = λ z above_a above_b.
+            let z_a : met z (rising ++ (top ∷ tail)) ≡ true = subst (λ w. met z w ≡ true) first (has_ancestors a z la above_a) in
+            let z_b : met z (falling ++ (top ∷ tail)) ≡ true = subst (λ w. met z w ≡ true) second (has_ancestors b z lb above_b) in
             let p = met_append z rising (top ∷ tail) in
             let q = met_append z falling (top ∷ tail) in
             let apart : met z rising ≡ true → met z falling ≡ false = m.together.apart z in
-            follows_ancestor next top z (top ∷ tail) (follows_from next a top rising tail from-a) (grind (arith, apart));
+            follows_ancestor next top z (top ∷ tail) (follows_from next a top rising tail from_a) (grind (arith, apart));
       }
 
   pub path_over_nearest : (a b : ℕ) → a < size → b < size → (p : Path) → NoCircle a (root_walk next size None a) → path next size a b ≡ Some p → OverNearest next a b p.steps

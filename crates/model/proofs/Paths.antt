@@ -142,17 +142,17 @@ walks_meet next size root root' a b la lb ends =
     let f = (root_walk next size root a).enodes in
     let t = (root_walk next size root' b).enodes in
     let first = walk_begins next root size a la in
-    let from-a = walk_follows next root size [] a in
-    let from-b = walk_follows next root' size [] b in
-    let once-a = walk_distinct next root size [] a in
-    let once-b = walk_distinct next root' size [] b in
+    let from_a = walk_follows next root size [] a in
+    let from_b = walk_follows next root' size [] b in
+    let once_a = walk_distinct next root size [] a in
+    let once_b = walk_distinct next root' size [] b in
     let alike : last a first.0 ≡ last b t = ap (last a) (sym first.1) ∙ ends in
     record {
-      from_first = from-a;
-      from_second = from-b;
-      once_first = once-a;
-      once_second = once-b;
+      from_first = from_a;
+      from_second = from_b;
+      once_first = once_a;
+      once_second = once_b;
       together =
           subst (λ w. Confluent w t) (sym first.1)
-          (confluent next b t from-b once-b a a first.0 (subst (Follows next a) first.1 from-a) (subst Distinct first.1 once-a) alike (rw alike (walk_has_last next root' size b lb)));
+          (confluent next b t from_b once_b a a first.0 (subst (Follows next a) first.1 from_a) (subst Distinct first.1 once_a) alike (rw alike (walk_has_last next root' size b lb)));
     }

@@ -104,7 +104,7 @@ module _ (limit : ℕ) where
   -- and stays so while no given is accepted and no frame moved
   path_stays : (s : Session) (m : Move) (a b : ℕ) (ss : List Step) → InOrder s → (play limit s m).after.case.records.givens ≡ s.case.records.givens → (play limit s m).after.case.frames ≡ s.case.frames →
       PathIs s a b ss → PathIs (play limit s m).after a b ss
-  path_stays s m a b ss h givens same-frames p =
+  path_stays s m a b ss h givens same_frames p =
       let t = (play limit s m).after in
       let more = (play_goes_on limit s m h).no_fewer in
       let within : Within (links_of s.case) (size_of s) = λ e l q. link_within s.case.frames.counts s.case.records.givens e l q (size_of s) h.ends in
@@ -113,7 +113,7 @@ module _ (limit : ℕ) where
         to_known = omega (arith, more, p.to_known);
         way = p.way;
         is =
-            (λ i. path (links (same-frames i).counts (givens i)) (size_of t) a b)
+            (λ i. path (links (same_frames i).counts (givens i)) (size_of t) a b)
             ∙ path_more (links_of s.case) (size_of s) (size_of t) within more a b p.from_known p.to_known
             ∙ p.is;
         steps = p.steps;

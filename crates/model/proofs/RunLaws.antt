@@ -121,21 +121,21 @@ module _ (limit : ℕ) (room : Room) (places : Places) (scratch : Scratch) where
     at_end = reached_in_order limit (reached limit (start limit room places scratch) ms) quiet (in_order ms)
 
   pub answers_turn : AnswersTurn limit room places scratch
-  answers_turn ms quiet a b ab ba stays no-circle h k =
+  answers_turn ms quiet a b ab ba stays no_circle h k =
       let s = reached limit (start limit room places scratch) ms in
       let p = answered_path limit s quiet a b ab (in_order ms) stays h in
       let q = answered_path limit s quiet b a ba (in_order ms) stays k in
-      let law = (laws_of (e ms quiet) (at_end ms quiet)).turns a b p.from_known p.to_known p.way no-circle p.is in
+      let law = (laws_of (e ms quiet) (at_end ms quiet)).turns a b p.from_known p.to_known p.way no_circle p.is in
       let same : q.way ≡ law.0 = cc (q.is, law.1) in
       q.steps ∙ ap (λ (w : Path). w.steps) same ∙ law.2 ∙ ap turned (sym p.steps)
 
   pub answers_compose : AnswersCompose limit room places scratch
-  answers_compose ms quiet a b c ab bc ac stays no-circle h k j zs strikes bare =
+  answers_compose ms quiet a b c ab bc ac stays no_circle h k j zs strikes bare =
       let s = reached limit (start limit room places scratch) ms in
       let p = answered_path limit s quiet a b ab (in_order ms) stays h in
       let q = answered_path limit s quiet b c bc (in_order ms) stays k in
       let r = answered_path limit s quiet a c ac (in_order ms) stays j in
-      let law = (laws_of (e ms quiet) (at_end ms quiet)).compose a b c p.from_known p.to_known r.to_known p.way q.way no-circle p.is q.is in
+      let law = (laws_of (e ms quiet) (at_end ms quiet)).compose a b c p.from_known p.to_known r.to_known p.way q.way no_circle p.is q.is in
       let same : law.0 ≡ r.way = cc (r.is, law.1) in
       let all : Strikes (p.way.steps ++ q.way.steps) zs = subst (λ xs. Strikes xs zs) (λ i. p.steps i ++ q.steps i) strikes in
       law.3 zs all bare ∙ ap (λ (w : Path). w.steps) same ∙ sym r.steps

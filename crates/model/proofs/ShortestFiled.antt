@@ -122,7 +122,7 @@ module _ (next : Links) (records : Records) (places : Places) (lay : Lays next (
           go (Some way) is =
               ensured_more (FilesLeast (OpenChain before way 0)) Well _ (λ r m h. record {
                 on_file = h.on_file;
-                least = λ n cs e (other, is-way, c). h.least n cs e (subst (λ w. OpenChain before w 0 cs) (let z : other ≡ way = cc in z) c);
+                least = λ n cs e (other, is_way, c). h.least n cs e (subst (λ w. OpenChain before w 0 cs) (let z : other ≡ way = cc in z) c);
               }) (joined_least next records places level nested p before way (lay p way la lb ne is))
 
     checked_least : (rest : Act Reply) → (p.from < enodes → p.to < enodes → (p.from ≡ p.to → ⊥) → ensured Well (rest before)) → ensured Well (Q.checked next records places level p rest before)

@@ -11,28 +11,28 @@ pub returns : goal.returns
 returns c =
     let t = c.args.self.now in
     let e = c.args.expl in
-    let enodes-long = length-take-le t.enodes.len t.enodes.rows.now c.requires.limits.0.0 in
-    let givens-long = length-take-le t.givens.len t.givens.rows.now c.requires.limits.1.0 in
-    let arguments-long = length-take-le t.arguments.len t.arguments.rows.now c.requires.limits.2.0 in
+    let enodes_long = length-take-le t.enodes.len t.enodes.rows.now c.requires.limits.0.0 in
+    let givens_long = length-take-le t.givens.len t.givens.rows.now c.requires.limits.1.0 in
+    let arguments_long = length-take-le t.arguments.len t.arguments.rows.now c.requires.limits.2.0 in
     let under = c.from-under.ensures in
-    let low : from_of e < t.enodes.len = omega (arith, c.requires.known, enodes-long) in
+    let low : from_of e < t.enodes.len = omega (arith, c.requires.known, enodes_long) in
     let at : get_or t.enodes.rows.now c.from-under.result no_enode ≡ enode_under t e =
     ap (λ i. get_or t.enodes.rows.now i no_enode) under ∙ sym (get_or-take t.enodes.len t.enodes.rows.now (from_of e) no_enode low) in
     record {
-      number = sym givens-long;
+      number = sym givens_long;
       filed = record {
-        enodes = c.put.ensures.listed ∙ cc (at, under, givens-long);
-        givens = c.push.ensures.listed ∙ ap (λ r. listed t.givens ++ (r ∷ [])) (row_made t e c.args.frame _ _ _ t.arguments.len _ c.from.ensures c.to.ensures c.kind_at-kind.ensures arguments-long at);
+        enodes = c.put.ensures.listed ∙ cc (at, under, givens_long);
+        givens = c.push.ensures.listed ∙ ap (λ r. listed t.givens ++ (r ∷ [])) (row_made t e c.args.frame _ _ _ t.arguments.len _ c.from.ensures c.to.ensures c.kind_at-kind.ensures arguments_long at);
         arguments = c.push_pairs.ensures.listed ∙ ap (λ ps. listed t.arguments ++ ps) c.arg_eqs.ensures;
         enode_places = c.put.ensures.places;
         given_places = c.push.ensures.places;
         argument_places = c.push_pairs.ensures.places;
         limits = (
           (omega (arith, c.put.ensures.len, c.put.ensures.places, c.requires.limits.0.0), omega (arith, c.put.ensures.len, c.requires.limits.0.1)),
-          (omega (arith, c.push.ensures.len, c.push.ensures.places, c.requires.given_room, givens-long), omega (arith, c.push.ensures.len, c.requires.given_room, givens-long)),
+          (omega (arith, c.push.ensures.len, c.push.ensures.places, c.requires.given_room, givens_long), omega (arith, c.push.ensures.len, c.requires.given_room, givens_long)),
           (
-            omega (arith, c.push_pairs.ensures.len, c.push_pairs.ensures.places, c.requires.argument_room, arguments-long, ap length c.arg_eqs.ensures),
-            omega (arith, c.push_pairs.ensures.len, c.requires.argument_room, arguments-long, ap length c.arg_eqs.ensures),
+            omega (arith, c.push_pairs.ensures.len, c.push_pairs.ensures.places, c.requires.argument_room, arguments_long, ap length c.arg_eqs.ensures),
+            omega (arith, c.push_pairs.ensures.len, c.requires.argument_room, arguments_long, ap length c.arg_eqs.ensures),
           ),
         );
       };
