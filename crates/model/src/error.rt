@@ -1,6 +1,6 @@
 // Why a call is refused, and where in a question.
 ghost use Rattle.std.specs.Prelude.{◌≡◌, None};
-ghost use Rattle.model.specs.Refusals.{asked as asked-for, number_of, told};
+ghost use Rattle.model.specs.Refusals.{asked as asked_for, number_of, told};
 
 use crate::items::{Argument, Pair};
 
@@ -66,7 +66,7 @@ impl Fault {
 
 // The same answer of the question for a pair, which its refusal names.
 pub fn asked(pair: Pair, answer: Result<(), Fault>) -> Result<(), Fault>
-    ensures { told result ≡ asked-for pair (told answer) }
+    ensures { told result ≡ asked_for pair (told answer) }
 {
     match answer {
         Ok(()) => Ok(()),

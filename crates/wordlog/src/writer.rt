@@ -1,7 +1,7 @@
 // Writes the calls of a log.
 ghost use Rattle.std.specs.Prelude.{◌≡◌, ◌^◌, ◌<◌, ◌∷◌, ◌++◌, length};
 ghost use Rattle.model.specs.Format.{AllPlain, given_head};
-ghost use Rattle.wordlog.specs.Calls.{call_of, call_as, given_of, congruence, permission as permission-of};
+ghost use Rattle.wordlog.specs.Calls.{call_of, call_as, given_of, congruence, permission as permission_of};
 ghost use Rattle.wordlog.specs.Writing.{Puts, Writes, ReadsBack};
 
 use crate::call::{Call, TransEqAllowed};
@@ -34,7 +34,7 @@ fn given_head(kind: u32, count: u32) -> u32
 
 // A question's two permissions as its payload.
 fn permission(allowed: TransEqAllowed) -> u32
-    ensures { result ≡ permission-of allowed }
+    ensures { result ≡ permission_of allowed }
 {
     u32::from(allowed.can_mismatch_initial) + 2 * u32::from(allowed.can_mismatch_congr)
 }
