@@ -6,7 +6,10 @@ cd "$(dirname "$0")/.."
 xargs -d '\n' git rm -q <unfinished/removed.txt
 (cd unfinished && find crates docs ci -type f) | while read -r file; do
     to=${file%.txt}
-    [ "$file" != "ci/${file#ci/}" ] || to=.$to
+    case $to in
+    ci/*) to=.$to ;;
+    docs/README.md) to=README.md ;;
+    esac
     mkdir -p "$(dirname "$to")"
     mv "unfinished/$file" "$to"
 done
