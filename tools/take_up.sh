@@ -1,10 +1,11 @@
 #!/usr/bin/env bash
-# Puts the unfinished work in the place of the landed files: tools/take_up.sh, in a checkout with nothing uncommitted. docs/PORT.md says what it changes, and what of it does not prove yet.
-set -eu
+# Puts the unfinished work in the place of the landed files: tools/take_up.sh, in a checkout with nothing uncommitted. docs/PORT.md says what it changes.
+set -euo pipefail
 cd "$(dirname "$0")/.."
 [ -z "$(git status --porcelain)" ] || { echo "commit first" >&2; exit 1; }
+mapfile -t files < <(cd unfinished && find crates docs ci -type f)
 xargs -d '\n' git rm -q <unfinished/removed.txt
-(cd unfinished && find crates docs ci -type f) | while read -r file; do
+for file in "${files[@]}"; do
     to=${file%.txt}
     case $to in
     ci/*) to=.$to ;;
@@ -14,4 +15,5 @@ xargs -d '\n' git rm -q <unfinished/removed.txt
     mv "unfinished/$file" "$to"
 done
 mv unfinished/crates.listed.txt crates.txt
-rm -r unfinished
+rm unfinished/removed.txt
+find unfinished -depth -type d -empty -delete

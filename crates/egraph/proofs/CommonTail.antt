@@ -41,11 +41,11 @@ module _ (walks : List ℕ) (f t : ℕ) (fits : f + t ≤ length walks) where
       get_or-reverse (take t (drop f walks)) s 0 (omega (arith, long)) ∙ ap (λ n. get_or (take t (drop f walks)) (n - 1 - s) 0) long ∙ get_or-take t (drop f walks) (t - 1 - s) 0 (omega arith)
       ∙ get_or-drop f walks (t - 1 - s) 0 ∙ ap (λ n. get_or walks n 0) place
 
-  module _ (s : ℕ) (c : Common walks f t s) (in_f : s < f) (in-t : s < t) where
+  module _ (s : ℕ) (c : Common walks f t s) (in_f : s < f) (in_t : s < t) where
     heads : common (drop s xs) (drop s ys) ≡ cond (eqb (get_or walks (f - 1 - s) 0) (get_or walks (f + t - 1 - s) 0)) (suc (common (drop (s + 1) xs) (drop (s + 1) ys))) 0
     heads =
         (λ i. common (drop_more xs s 0 (omega (arith, xs_long)) i) (drop_more ys s 0 (omega (arith, ys_long)) i))
-        ∙ (λ i. cond (eqb (x_at s in_f i) (y_at s in-t i)) (suc (common (drop (s + 1) xs) (drop (s + 1) ys))) 0)
+        ∙ (λ i. cond (eqb (x_at s in_f i) (y_at s in_t i)) (suc (common (drop (s + 1) xs) (drop (s + 1) ys))) 0)
 
     pub common_more : get_or walks (f - 1 - s) 0 ≡ get_or walks (f + t - 1 - s) 0 → Common walks f t (s + 1)
     common_more same =

@@ -64,7 +64,7 @@ module _ (next : Links) (size : ℕ) (root : Option ℕ) (e : ℕ) (low : e < si
     pub written_length : length (placed base W out) ≡ length out
     written_length = placed_length base W out (omega (arith, walk_few))
 
-module _ (next : Links) (size : ℕ) (p : Pair) (in_f : p.from < size) (in-t : p.to < size) (before : List ℕ) (fits : 2 * size ≤ length before) where
+module _ (next : Links) (size : ℕ) (p : Pair) (in_f : p.from < size) (in_t : p.to < size) (before : List ℕ) (fits : 2 * size ≤ length before) where
   abbrev F : List ℕ
   F = walk_from next size p
 
@@ -91,21 +91,21 @@ module _ (next : Links) (size : ℕ) (p : Pair) (in_f : p.from < size) (in-t : p
   first_end = ap (λ n. get_or once n 0) (sym (zero-add (length F - 1))) ∙ written_end next size None p.from in_f 0 before first_fits
 
   pub first_stands : first_part (length F) twice ≡ F
-  first_stands = written_front next size (Some (last p.from F)) p.to in-t (length F) once second_fits ∙ written_part next size None p.from in_f 0 before first_fits
+  first_stands = written_front next size (Some (last p.from F)) p.to in_t (length F) once second_fits ∙ written_part next size None p.from in_f 0 before first_fits
 
   pub second_stands : second_part (length F) (length T) twice ≡ T
-  second_stands = written_part next size (Some (last p.from F)) p.to in-t (length F) once second_fits
+  second_stands = written_part next size (Some (last p.from F)) p.to in_t (length F) once second_fits
 
   pub second_end : get_or twice (length F + length T - 1) 0 ≡ last p.to T
   second_end =
-      let place : length F + length T - 1 ≡ length F + (length T - 1) = omega (arith, walk_some next size (Some (last p.from F)) p.to in-t) in
-      ap (λ n. get_or twice n 0) place ∙ written_end next size (Some (last p.from F)) p.to in-t (length F) once second_fits
+      let place : length F + length T - 1 ≡ length F + (length T - 1) = omega (arith, walk_some next size (Some (last p.from F)) p.to in_t) in
+      ap (λ n. get_or twice n 0) place ∙ written_end next size (Some (last p.from F)) p.to in_t (length F) once second_fits
 
   pub twice_long : length twice ≡ length before
-  twice_long = written_length next size (Some (last p.from F)) p.to in-t (length F) once second_fits ∙ once_long
+  twice_long = written_length next size (Some (last p.from F)) p.to in_t (length F) once second_fits ∙ once_long
 
   pub both_fit : length F + length T ≤ length twice
-  both_fit = omega (arith, twice_long, walk_few next size None p.from in_f, walk_few next size (Some (last p.from F)) p.to in-t)
+  both_fit = omega (arith, twice_long, walk_few next size None p.from in_f, walk_few next size (Some (last p.from F)) p.to in_t)
 
   pub no_path : (last p.to T ≡ last p.from F → ⊥) → path next size p.from p.to ≡ None
   no_path other = ap (λ b. some_if b (join next F T)) (ne_eqb (last p.from F) (last p.to T) (λ q. other (sym q)))

@@ -90,7 +90,7 @@ module _ (next : Links) (size : ℕ) (p : Pair) (walks : List ℕ) (s : SimplePa
         (λ i. (Some (long i), all i)) ∙ ap (λ o. told_path o out) (sym f.is)
 
 -- the same over the links of givens whose ends are on the books
-module _ (counts : ℕ → Bool) (gs : List Given) (size : ℕ) (known : EndsKnown gs size) (p : Pair) (in_f : p.from < size) (in-t : p.to < size) (walks : List ℕ) (s : SimplePath) (f : FoundPath (links counts gs) size p walks s) (n m : ℕ) (up_is : n ≡ s.from_to_root - s.shared) (down_is : m ≡ s.to_to_root - s.shared) where
+module _ (counts : ℕ → Bool) (gs : List Given) (size : ℕ) (known : EndsKnown gs size) (p : Pair) (in_f : p.from < size) (in_t : p.to < size) (walks : List ℕ) (s : SimplePath) (f : FoundPath (links counts gs) size p walks s) (n m : ℕ) (up_is : n ≡ s.from_to_root - s.shared) (down_is : m ≡ s.to_to_root - s.shared) where
   within : Within (links counts gs) size
   within e l h = link_within counts gs e l h size known
 
@@ -98,12 +98,12 @@ module _ (counts : ℕ → Bool) (gs : List Given) (size : ℕ) (known : EndsKno
   rise_known = rising_known (links counts gs) size p walks s f n m up_is down_is (walk_below (links counts gs) None size size [] p.from within in_f)
 
   pub fall_known : AllBelow size (take m (drop s.from_to_root walks))
-  fall_known = falling_known (links counts gs) size p walks s f n m up_is down_is (walk_below (links counts gs) (Some (last p.from (walk_from (links counts gs) size p))) size size [] p.to within in-t)
+  fall_known = falling_known (links counts gs) size p walks s f n m up_is down_is (walk_below (links counts gs) (Some (last p.from (walk_from (links counts gs) size p))) size size [] p.to within in_t)
 
   few_steps : n + m < size
   few_steps =
       let laws = walks_lawful counts gs size known in
-      omega (arith, path_short counts gs size laws known p.from p.to in_f in-t _ f.is, steps_long (links counts gs) size p walks s f n m up_is down_is)
+      omega (arith, path_short counts gs size laws known p.from p.to in_f in_t _ f.is, steps_long (links counts gs) size p walks s f n m up_is down_is)
 
   pub rise_places : length (take n walks) < size
   rise_places = omega (arith, few_steps, rising_count (links counts gs) size p walks s f n m up_is down_is)

@@ -15,7 +15,7 @@ use Rattle.model.specs.RunLaws.{size_of, Explains, Files, Unjoined, ElseAccepted
 use Rattle.model.proofs.Growth.{Longer, longer_self, longer_trans, MoreUses, more_self, more_trans}
 use Rattle.model.proofs.Citations.{cite_earlier}
 use Rattle.model.proofs.Passing.{each_map, explains, marks, FiledFor, FilesFor}
-use Rattle.model.proofs.Sessions.{InOrder, Goes_on, AnswerSays, Asked, ask_asked, play_goes_on, reached_in_order, start_in_order}
+use Rattle.model.proofs.Sessions.{InOrder, GoesOn, AnswerSays, Asked, ask_asked, play_goes_on, reached_in_order, start_in_order}
 use Rattle.model.proofs.QuietRuns.{laws_of, check_itself, answered_path}
 
 -- more entries and more use lists
@@ -40,7 +40,7 @@ module _ (limit : ℕ) (room : Room) (places : Places) (scratch : Scratch) where
   in_order : (ms : List Move) → InOrder (reached limit (start limit room places scratch) ms)
   in_order ms = start_in_order limit room places scratch ms
 
-  goes_on : (ms : List Move) (m : Move) → Goes_on (reached limit (start limit room places scratch) ms) (play limit (reached limit (start limit room places scratch) ms) m)
+  goes_on : (ms : List Move) (m : Move) → GoesOn (reached limit (start limit room places scratch) ms) (play limit (reached limit (start limit room places scratch) ms) m)
   goes_on ms m = play_goes_on limit (reached limit (start limit room places scratch) ms) m (in_order ms)
 
   pub filed_for_good : FiledForGood limit room places scratch

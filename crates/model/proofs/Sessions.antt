@@ -41,7 +41,7 @@ pub record InOrder (s : Session) : Type 0 where
   pub sound : Sound s.memory
 
 -- what holds after every call
-pub record Goes_on (s : Session) (t : Turn) : Type 0 where
+pub record GoesOn (s : Session) (t : Turn) : Type 0 where
   pub passes : Passes (links_of s.case) (size_of s) s.memory t.questions t.after.memory
   pub in_order : InOrder t.after
   pub no_fewer : size_of s ≤ size_of t.after
@@ -52,7 +52,7 @@ record Grown (k l : Case) : Type 0 where
   no_fewer : length k.records.enodes ≤ length l.records.enodes
 
 -- logging and frames leave what is remembered
-logged_goes_on : (s : Session) (o : Outcome) → InOrder s → Grown s.case o.1 → Goes_on s (logged s o)
+logged_goes_on : (s : Session) (o : Outcome) → InOrder s → Grown s.case o.1 → GoesOn s (logged s o)
 logged_goes_on s (Ok n, k) h g = record { passes = passes_self (links_of s.case) (size_of s) h.sound; in_order = record { ends = g.ends; sound = h.sound }; no_fewer = g.no_fewer }
 logged_goes_on s (Err r, k) h g = record { passes = passes_self (links_of s.case) (size_of s) h.sound; in_order = record { ends = g.ends; sound = h.sound }; no_fewer = g.no_fewer }
 
@@ -115,7 +115,7 @@ AnswerSays s p entries (by_entry n) = AnswersBy (links_of s.case) (size_of s) en
 AnswerSays s p entries (refused r) = r.number ≡ 5 → r.level ≡ 0 → (p.from < size_of s) × (p.to < size_of s) × (way_of (links_of s.case) (size_of s) p ≡ None)
 
 pub record Asked (s : Session) (p : Pair) (t : Turn) : Type 0 where
-  pub goes_on : Goes_on s t
+  pub goes_on : GoesOn s t
   pub says : AnswerSays s p t.after.memory.entries t.answer
 
 module _ (s : Session) (h : InOrder s) where
@@ -128,7 +128,7 @@ module _ (s : Session) (h : InOrder s) where
       let laws = walks_lawful s.case.frames.counts s.case.records.givens (size_of s) h.ends in
       joins_some s.case.records.givens way.steps p.from p.to (laws.joins p.from p.to la lb way is).0 ne
 
-  went : (a : Answer) (m : Memory) (qs : List Question) → Passes (links_of s.case) (size_of s) s.memory qs m → Goes_on s (record { answer = a; after = with_memory s m; questions = qs })
+  went : (a : Answer) (m : Memory) (qs : List Question) → Passes (links_of s.case) (size_of s) s.memory qs m → GoesOn s (record { answer = a; after = with_memory s m; questions = qs })
   went a m qs p = record { passes = p; in_order = record { ends = h.ends; sound = p.sound }; no_fewer = omega arith }
 
   answered : (p : Pair) (d : Done Reply) → ComesTo (links_of s.case) (size_of s) none_pending (Replies (links_of s.case) s.case.records s.places p) (Refused (links_of s.case) s.case.records s.places p 0) s.memory d → Asked s p (asked_turn s d)
@@ -149,7 +149,7 @@ module _ (s : Session) (h : InOrder s) where
         unless_short_asked p _ (asked_short p (scratch_checks s) (scratch_short s)) _
         (answered p _ (ask_does (links_of s.case) s.case.records s.places moves 33 0 (permission may) p s.memory h.sound).holds)
 
-    pub turn_goes_on : (c : Call) → Goes_on s (turn limit leaves c s)
+    pub turn_goes_on : (c : Call) → GoesOn s (turn limit leaves c s)
     unfolding turn
     turn_goes_on (F.enode owner) = logged_goes_on s _ h (enode_grown s.case h.ends owner)
     turn_goes_on (F.given a b kind) = logged_goes_on s _ h (given_grown s.case h.ends a b kind)
@@ -158,7 +158,7 @@ module _ (s : Session) (h : InOrder s) where
     turn_goes_on (F.ask may a b) = (ask_asked may a b).goes_on
 
 module _ (limit : ℕ) where
-  pub play_goes_on : (s : Session) (m : Move) → InOrder s → Goes_on s (play limit s m)
+  pub play_goes_on : (s : Session) (m : Move) → InOrder s → GoesOn s (play limit s m)
   play_goes_on s m h = turn_goes_on s h limit m.leaves m.call
 
   pub reached_in_order : (s : Session) (ms : List Move) → InOrder s → InOrder (reached limit s ms)
