@@ -1,7 +1,6 @@
 #![tactic(auto)]
 
 // The lines that a listing of a log is made of, each appended to a text.
-mod append;
 pub mod log;
 mod parts;
 pub mod question;

@@ -2,14 +2,13 @@
 ghost use Rattle.std.specs.Prelude.{◌≡◌, ◌++◌, string_bytes, OnOk};
 ghost use Rattle.lines.specs.Text.{refused_text, totals_text};
 
-use crate::append::append;
 use std::alloc::AllocError;
 
 // The refusal by its number, and the place of the call's head in the log.
 pub fn refused_line(out: &mut String, number: u32, place: u32) -> Result<(), AllocError>
     ensures { OnOk result (string_bytes out.new ≡ string_bytes out.old ++ refused_text number place) }
 {
-    append(out, format_args!("refused {number} at {place}\n"))
+    writeln!(out, "refused {number} at {place}")
 }
 
 // How many enodes, givens and frames there are.
@@ -21,8 +20,5 @@ pub fn totals_line(
 ) -> Result<(), AllocError>
     ensures { OnOk result (string_bytes out.new ≡ string_bytes out.old ++ totals_text enodes givens frames) }
 {
-    append(
-        out,
-        format_args!("enodes {enodes} givens {givens} frames {frames}\n"),
-    )
+    writeln!(out, "enodes {enodes} givens {givens} frames {frames}")
 }

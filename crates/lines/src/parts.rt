@@ -1,57 +1,65 @@
-// The parts of a line that repeat or may be missing.
-ghost use Rattle.std.specs.Prelude.{◌≡◌, ◌++◌, string_bytes, OnOk};
+// The parts of a line that repeat or may be missing, as they are printed.
+ghost use Rattle.std.specs.Prelude.{ℕ, List, Some};
 ghost use Rattle.std.specs.List.{flat_map};
-ghost use Rattle.lines.specs.Text.{enode_text, tells_text, sign_text, step_text};
+ghost use Rattle.std.specs.Fmt.{WritesOnOk};
+ghost use Rattle.lines.specs.Text.{enode_text, tells_text, step_text};
 
-use crate::append::append;
 use model::items::Step;
-use std::alloc::AllocError;
+use std::fmt;
+
+// An element of a list, as it is printed. No `Display`, which is std's, can stand here for model's `Step`.
+pub(crate) trait Part {
+    ghost text: { Self → List ℕ };
+
+    fn print<W: fmt::Write>(&self, f: &mut fmt::Formatter<W>) -> fmt::Result
+        ensures { WritesOnOk W.write_str_gives f.old result (text self.now) f.new };
+}
 
 // A blank and the enode.
-fn enode_part(out: &mut String, enode: u32) -> Result<(), AllocError>
-    ensures { OnOk result (string_bytes out.new ≡ string_bytes out.old ++ enode_text enode) }
-{
-    append(out, format_args!(" {enode}"))
-}
+impl Part for u32 {
+    ghost text = { enode_text };
 
-pub(crate) fn enode_parts(out: &mut String, enodes: &[u32]) -> Result<(), AllocError>
-    ensures { OnOk result (string_bytes out.new ≡ string_bytes out.old ++ flat_map enode_text enodes.now) }
-{
-    for enode in enodes {
-        enode_part(out, *enode)?;
+    fn print<W: fmt::Write>(&self, f: &mut fmt::Formatter<W>) -> fmt::Result {
+        write!(f, " {self}")
     }
-    Ok(())
-}
-
-pub(crate) fn tells_part(out: &mut String, tells: Option<u32>) -> Result<(), AllocError>
-    ensures { OnOk result (string_bytes out.new ≡ string_bytes out.old ++ tells_text tells) }
-{
-    match tells {
-        Some(told) => append(out, format_args!(" tells {told}")),
-        None => Ok(()),
-    }
-}
-
-fn sign(forward: bool) -> &'static str
-    ensures { result.now ≡ sign_text forward }
-{
-    if forward { "+" } else { "-" }
 }
 
 // A blank, the direction, and the given by its number.
-fn step_part(out: &mut String, step: Step) -> Result<(), AllocError>
-    ensures { OnOk result (string_bytes out.new ≡ string_bytes out.old ++ step_text step) }
-{
-    let sign = sign(step.forward);
-    let given = step.given;
-    append(out, format_args!(" {sign}g{given}"))
+impl Part for Step {
+    ghost text = { step_text };
+
+    fn print<W: fmt::Write>(&self, f: &mut fmt::Formatter<W>) -> fmt::Result {
+        let sign = if self.forward { "+" } else { "-" };
+        write!(f, " {sign}g{}", self.given)
+    }
 }
 
-pub(crate) fn step_parts(out: &mut String, steps: &[Step]) -> Result<(), AllocError>
-    ensures { OnOk result (string_bytes out.new ≡ string_bytes out.old ++ flat_map step_text steps.now) }
-{
-    for step in steps {
-        step_part(out, *step)?;
+// The elements of a list, one behind another.
+#[derive(Drop)]
+pub(crate) struct Parts<'a, T>(pub(crate) &'a [T]);
+
+impl<T: Part> fmt::Display for Parts<'_, T> {
+    ghost output = { λ parts. Some (flat_map T.Part.text parts.0.now) };
+
+    fn fmt<W: fmt::Write>(&self, f: &mut fmt::Formatter<W>) -> fmt::Result {
+        for part in self.0 {
+            part.print(f)?;
+        }
+        Ok(())
     }
-    Ok(())
+}
+
+// The enode that a walk tells, if any.
+#[derive(Drop)]
+pub(crate) struct Tells(pub(crate) Option<u32>);
+
+impl fmt::Display for Tells {
+    ghost output = { λ tells. Some (tells_text tells.0) };
+
+    fn fmt<W: fmt::Write>(&self, f: &mut fmt::Formatter<W>) -> fmt::Result {
+        match self.0 {
+            Some(told) => write!(f, " tells {told}"),
+            None => Ok(()),
+        }
+    }
 }
