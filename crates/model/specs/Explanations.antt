@@ -1,6 +1,7 @@
 -- What a given is logged as. Assumes nothing.
 use Rattle.std.specs.Prelude.{ℕ, List, [], ◌∷◌}
 use Rattle.model.specs.declared.items.Pair.{Pair}
+use Rattle.model.specs.declared.items.Pairs.{Pairs}
 use Rattle.model.specs.declared.items.EqualityExpl.{EqualityExpl}
 use Rattle.model.specs.declared.items.EqualityExpl.TheVariants as expl
 use Rattle.model.specs.Records.{Kind}
@@ -11,6 +12,10 @@ abbrev pub pairs_of : List ℕ → List Pair
 pairs_of [] = []
 pairs_of (a ∷ []) = []
 pairs_of (a ∷ b ∷ ws) = record { from = a; to = b } ∷ pairs_of ws
+
+-- the pairs that an iterator has still to give
+abbrev pub pairs_left : Pairs → List Pair
+pairs_left p = pairs_of p.rest.words.now
 
 abbrev pub from_of : EqualityExpl → ℕ
 from_of (expl.Root e) = e

@@ -1,35 +1,36 @@
 // What a given tells of itself.
 ghost use Rattle.std.specs.Prelude.{◌≡◌, ◌/◌, [], ◌∷◌, length, MatchOption};
 ghost use Rattle.model.specs.Records.{args_of};
-ghost use Rattle.model.specs.Explanations.{pairs_of, from_of, to_of, kind_of};
+ghost use Rattle.std.specs.Iterator.{YieldsFirst, item_count};
+ghost use Rattle.model.specs.Explanations.{pairs_of, pairs_left, from_of, to_of, kind_of};
 
-use crate::items::{ArgPairs, EqualityExpl, Pair};
+use crate::items::{ArgPairs, EqualityExpl, Pair, Pairs};
 
 impl<'a> EqualityExpl<'a> {
+    // Its two ends, in order.
+    pub fn ends(self) -> Pair
+        ensures { result ≡ record { from = from_of self.entry; to = to_of self.entry } }
+    {
+        match self {
+            EqualityExpl::Root { id } => Pair { from: id, to: id },
+            EqualityExpl::Literal { from, to, .. }
+            | EqualityExpl::Congruence { from, to, .. }
+            | EqualityExpl::Theory { from, to, .. }
+            | EqualityExpl::Axiom { from, to }
+            | EqualityExpl::Unknown { from, to, .. } => Pair { from, to },
+        }
+    }
+
     pub fn from(self) -> u32
         ensures { result ≡ from_of self.entry }
     {
-        match self {
-            EqualityExpl::Root { id } => id,
-            EqualityExpl::Literal { from, .. } => from,
-            EqualityExpl::Congruence { from, .. } => from,
-            EqualityExpl::Theory { from, .. } => from,
-            EqualityExpl::Axiom { from, .. } => from,
-            EqualityExpl::Unknown { from, .. } => from,
-        }
+        self.ends().from
     }
 
     pub fn to(self) -> u32
         ensures { result ≡ to_of self.entry }
     {
-        match self {
-            EqualityExpl::Root { id } => id,
-            EqualityExpl::Literal { to, .. } => to,
-            EqualityExpl::Congruence { to, .. } => to,
-            EqualityExpl::Theory { to, .. } => to,
-            EqualityExpl::Axiom { to, .. } => to,
-            EqualityExpl::Unknown { to, .. } => to,
-        }
+        self.ends().to
     }
 
     // The argument pairs of a congruence; any other given has none.
@@ -71,5 +72,31 @@ impl<'a> ArgPairs<'a> {
             },
             ArgPairs { words: rest },
         ))
+    }
+}
+
+impl Iterator for Pairs<'_> {
+    type Item = Pair;
+
+    ghost next_gives = { YieldsFirst pairs_left };
+
+    ghost remaining = { item_count pairs_left };
+
+    fn next(&mut self) -> Option<Pair> {
+        let (first, behind) = self.rest.split_first()?;
+        self.rest = behind;
+        Some(first)
+    }
+}
+
+impl<'a> IntoIterator for ArgPairs<'a> {
+    type Item = Pair;
+
+    type IntoIter = Pairs<'a>;
+
+    ghost into_iter_gives = { λ arguments pairs. pairs.rest.words.now ≡ arguments.words.now };
+
+    fn into_iter(self) -> Pairs<'a> {
+        Pairs { rest: self }
     }
 }

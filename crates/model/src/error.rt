@@ -5,7 +5,7 @@ ghost use Rattle.model.specs.Refusals.{asked as asked_for, number_of, told};
 use crate::items::{Argument, Pair};
 
 // The tables that can be full.
-#[derive(Clone, Copy)]
+#[derive(Clone, Copy, Debug, PartialEq, Eq)]
 pub enum TableName {
     Enodes,
     Givens,
@@ -13,7 +13,7 @@ pub enum TableName {
     FrameCount,
 }
 
-#[derive(Clone, Copy)]
+#[derive(Clone, Copy, Debug, PartialEq, Eq)]
 pub enum Cause {
     UnknownEnode(u32),
     NotFirstEnd(u32),
@@ -42,7 +42,7 @@ impl Cause {
 }
 
 // One fault type for every layer: the cause, the pair that was asked for, how deep its question was nested, and the argument of the outermost question that it came from.
-#[derive(Clone, Copy)]
+#[derive(Clone, Copy, Debug, PartialEq, Eq)]
 pub struct Fault {
     pub cause: Cause,
     pub pair: Option<Pair>,
@@ -68,13 +68,8 @@ impl Fault {
 pub fn asked(pair: Pair, answer: Result<(), Fault>) -> Result<(), Fault>
     ensures { told result ≡ asked_for pair (told answer) }
 {
-    match answer {
-        Ok(()) => Ok(()),
-        Err(fault) => Err(Fault {
-            cause: fault.cause,
-            pair: Some(pair),
-            level: fault.level,
-            argument: fault.argument,
-        }),
-    }
+    answer.map_err(|fault| Fault {
+        pair: Some(pair),
+        ..fault
+    })
 }
