@@ -44,18 +44,12 @@ impl<'a> EqualityExpl<'a> {
     }
 }
 
-// How many pairs that many words make. An odd last word is in no pair.
-fn pairs_in(words: usize) -> usize
-    ensures { result ≡ words / 2 }
-{
-    words / 2
-}
-
 impl<'a> ArgPairs<'a> {
+    #[tactic(auto, using(crate::proofs::ArgPairs::pairs_length))]
     pub fn len(self) -> usize
         ensures { result ≡ length (pairs_of self.entry.words.now) }
     {
-        pairs_in(self.words.len())
+        self.words.len() / 2
     }
 
     // The first pair and those behind it, if there is one.
