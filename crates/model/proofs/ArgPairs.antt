@@ -1,6 +1,5 @@
 -- Words read two by two. Assumes nothing.
-use Rattle.std.proofs.Common.{◌≡◌, ℕ, ◌-◌, ◌/◌, ◌≤◌, List, [], ◌∷◌, length, get_or, take, drop, refl, arith}
-use Rattle.std.proofs.lemmas.List.{take_all}
+use Rattle.std.proofs.Common.{◌≡◌, ℕ, ◌/◌, List, [], ◌∷◌, length, refl, arith}
 use Rattle.model.specs.Explanations.{pairs_of}
 
 pub pairs_length : (ws : List ℕ) → length ws / 2 ≡ length (pairs_of ws)

@@ -99,6 +99,10 @@ Unjoined t =
 abbrev pub ElseAccepted : Turn → Type 0
 ElseAccepted t = (r : Refusal) → t.answer ≡ refused r → (r.number ≡ 5) × (r.level ≡ 0)
 
+-- whatever the rule's limit, and however many places the tables and the scratch have
+abbrev pub InEveryCase : (ℕ → Room → Places → Scratch → Type 0) → Type 0
+InEveryCase P = (limit : ℕ) (room : Room) (places : Places) (scratch : Scratch) → P limit room places scratch
+
 module _ (limit : ℕ) (room : Room) (places : Places) (scratch : Scratch) where
   abbrev pub start : Session
   start = empty_session room places scratch

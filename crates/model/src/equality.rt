@@ -59,13 +59,11 @@ impl<'a> ArgPairs<'a> {
         let [from, to, rest @ ..] = self.words else {
             return None;
         };
-        Some((
-            Pair {
-                from: *from,
-                to: *to,
-            },
-            ArgPairs { words: rest },
-        ))
+        let first = Pair {
+            from: *from,
+            to: *to,
+        };
+        Some((first, ArgPairs { words: rest }))
     }
 }
 

@@ -25,7 +25,7 @@ pub enum Cause {
 }
 
 impl Cause {
-    // The number by which a refusal is told.
+    // The number by which a refusal is told. A method, and no `From`: the number does not hold the refusal's value.
     pub fn number(&self) -> u32
         ensures { result ≡ number_of self.now }
     {
