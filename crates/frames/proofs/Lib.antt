@@ -1,4 +1,3 @@
-pub mod OpenOnly
-pub mod Holders
 pub mod Running
+pub mod SeenOtherwise
 pub mod LastClosed

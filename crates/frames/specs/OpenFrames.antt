@@ -1,13 +1,13 @@
 -- Which frames are open, and that every open frame counts.
-use Rattle.std.specs.Prelude.{◌≡◌, ℕ, zero, suc, ◌+◌, ◌-◌, ◌<◌, Bool, true, false, cond, ◌&&◌, ◌||◌, List, [], ◌∷◌, ◌++◌, length, take, drop, Result, ◌==◌, ◌≢◌, nat_lt, slice_index_or, slice_set, refl}
-use Rattle.std.proofs.Common.{sym, ap, arith}
-use Rattle.std.proofs.lemmas.List.{at_drop_more}
-use Rattle.std.proofs.lemmas.Bool.{eq-eqb, ne_eqb}
+use Rattle.std.specs.Prelude.{◌≡◌, ℕ, zero, suc, ◌+◌, ◌-◌, ◌<◌, Bool, true, false, cond, not, ◌&&◌, ◌||◌, List, [], ◌∷◌, ◌++◌, length, take, drop, Result, ◌==◌, ◌≢◌, nat_lt, slice_index_or, slice_set, refl}
+use Rattle.std.proofs.Common.{ap, inl, inr, arith}
+use Rattle.std.proofs.lemmas.Bool.{cases_Bool}
 use Rattle.std.proofs.lemmas.Bool.Decides.{nat_tests}
+use Rattle.std.proofs.Math.Bool.{or-false}
 use Rattle.model.specs.declared.items.Frame.{Frame}
 use Rattle.model.specs.Refusals.{Refusal}
-use Rattle.model.specs.Frames.{Frames, Lawful, no_frame, is_open, current, counted, opened_more, counted_more, closed, open_frame, log_frame}
-use Rattle.frames.specs.Tables.{open_only}
+use Rattle.model.specs.Frames.{Frames, Lawful, no_frame, base, is_open, current, counted, opened_more, counted_more, closed, open_frame, log_frame}
+use Rattle.frames.specs.Counting.{open_only, open_also, not_below, counted_up}
 
 pub open_push : (f : ℕ) (os : List Frame) (o : Frame) → is_open f (os ++ (o ∷ [])) ≡ (is_open f os || f == o.number)
 open_push f [] o = grind (arith, nat_tests)
@@ -27,15 +27,8 @@ open_take f (suc n) (x ∷ xs) e = let ih : is_open f (take n xs) ≡ true → i
 pub open_counted : (f : ℕ) (os : List Frame) → is_open f (slice_set os (length os - 1) (counted (current os))) ≡ is_open f os
 open_counted f os = open_set f os (length os - 1) (counted (current os)) refl
 
--- a look through a list, at one place of it
-open_from : (f : ℕ) (os : List Frame) (i : ℕ) → i < length os → is_open f (drop i os) ≡ (f == (slice_index_or os i no_frame).number || is_open f (drop (i + 1) os))
-open_from f os i h = at_drop_more (is_open f) os i no_frame h
-
-pub open_here : (f : ℕ) (os : List Frame) (i : ℕ) → i < length os → (slice_index_or os i no_frame).number ≡ f → is_open f (drop i os) ≡ true
-open_here f os i h e = rw (open_from f os i h, eq-eqb f _ (sym e))
-
-pub open_later : (f : ℕ) (os : List Frame) (i : ℕ) → i < length os → ((slice_index_or os i no_frame).number ≢ f) → is_open f (drop i os) ≡ is_open f (drop (i + 1) os)
-open_later f os i h ne = rw (open_from f os i h, ne_eqb f _ (λ e. ne (sym e)))
+pub counted_up_number : (o : Frame) → (counted_up o).1.number ≡ o.number
+counted_up_number o = elim (cases_Bool (nat_lt o.count 65536)) [ inl q ↦ rw q refl | inr q ↦ rw q refl ]
 
 -- one frame more, the last one counted up, and one less with none taken out of the set
 pub more_lawful : (m : Frames) → Lawful m → Lawful (opened_more m)
@@ -54,8 +47,15 @@ less_lawful m l f e = rw (l f (open_take f (length m.opened - 1) m.opened e))
 pub open_only_lawful : (m : Frames) → Lawful (open_only m)
 open_only_lawful m f e = e
 
-pub open_also_lawful : (m : Frames) (last : ℕ) → Lawful (record { opened = m.opened; next = m.next; counts = λ f. is_open f m.opened || (f == last) })
-open_also_lawful m last f e = grind (arith, nat_tests, e)
+-- where the open frames alone count, at the start and at a closing
+pub open_only_starts : (f : ℕ) → (open_only base).counts f ≡ base.counts f
+open_only_starts f = or-false (f == 0)
+
+pub open_only_closes : (m : Frames) (f : ℕ) → (open_only (closed (λ _. false) m)).counts f ≡ ((open_only m).counts f && not (not_below m f))
+open_only_closes m f = let p = open_take f (length m.opened - 1) m.opened in grind (arith, nat_tests, p)
+
+pub open_also_lawful : (last : ℕ) (m : Frames) → Lawful (open_also last m)
+open_also_lawful last m f e = grind (arith, nat_tests, e)
 
 -- what holds after a call is shown where it is granted and where it is refused
 after : (P : Frames → Type 0) (test : Bool) (granted refused : Result ℕ Refusal × Frames) → P granted.1 → P refused.1 → P (cond test granted refused).1

@@ -1,63 +1,30 @@
 // The rule under which every frame counts from the time that it is opened, closed or not.
-ghost use Rattle.std.specs.Prelude.{◌≡◌, false};
-ghost use Rattle.model.specs.Frames.{base};
-ghost use Rattle.frames.specs.Tables.{Sound, handed_out};
-ghost use Rattle.frames.specs.HandedOut.{table_lawful, table_limited, table_within};
+ghost use Rattle.std.specs.Prelude.{false, refl};
 
-use crate::rule::FrameRule;
 use crate::table::FrameTable;
-use model::error::Fault;
+use crate::table_rule::{FrameSet, TableRule};
 
-#[derive(Drop)]
-pub struct Every {
-    table: FrameTable,
-    ghost ok: { Sound table },
-}
+pub type Every = TableRule<HandedOut>;
 
-impl Every {
-    pub fn new() -> Every
-        ensures { handed_out result.table ≡ base }
-    {
-        Every {
-            table: FrameTable::new(),
-        }
-    }
-}
+#[derive(Clone, Copy)]
+pub struct HandedOut;
 
-impl FrameRule for Every {
-    ghost means = { λ s. handed_out s.table };
+impl FrameSet for HandedOut {
+    ghost members = { λ m. m.counts };
 
-    ghost limit = { 64 };
+    ghost leaving = { λ _ _. false };
 
-    ghost leaves = { λ _ _. false };
+    ghost starts = { λ f. refl };
 
-    ghost limited = { table_limited };
+    ghost opens = { λ m f. refl };
 
-    ghost within = { λ s. table_within s.table s.ok };
+    ghost logs = { λ m f. refl };
 
-    ghost lawful = { λ s. table_lawful s.table s.ok };
+    ghost closes = { λ m f. refl };
 
-    fn counts(&self, frame: u32) -> bool {
-        frame < self.table.next
-    }
+    ghost lawful = { λ m l. l };
 
-    fn active_frame(&self) -> u32 {
-        self.table.active_frame()
-    }
-
-    fn height(&self) -> u32 {
-        self.table.height()
-    }
-
-    fn open(&mut self) -> Result<u32, Fault> {
-        self.table.open()
-    }
-
-    fn log_given(&mut self) -> Result<u32, Fault> {
-        self.table.log_given()
-    }
-
-    fn close(&mut self) -> Result<u32, Fault> {
-        self.table.close()
+    fn contains(table: &FrameTable, frame: u32) -> bool {
+        table.was_handed_out(frame)
     }
 }

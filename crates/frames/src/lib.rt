@@ -7,5 +7,6 @@ pub mod live;
 pub mod rule;
 pub mod run;
 mod table;
+pub mod table_rule;
 #[cfg(test)]
 mod tests;

@@ -1,64 +1,31 @@
 // The rule under which a frame counts while it is open.
-ghost use Rattle.std.specs.Prelude.{◌≡◌};
-ghost use Rattle.model.specs.Frames.{base};
-ghost use Rattle.frames.specs.Tables.{Sound, handed_out, open_only, not_below};
-ghost use Rattle.frames.specs.HandedOut.{table_limited, table_within};
-ghost use Rattle.frames.specs.OpenFrames.{open_only_lawful};
+ghost use Rattle.frames.specs.Counting.{open_only, not_below};
+ghost use Rattle.frames.specs.OpenFrames.{open_only_starts, open_push, open_counted, open_only_closes, open_only_lawful};
 
-use crate::rule::FrameRule;
 use crate::table::FrameTable;
-use model::error::Fault;
+use crate::table_rule::{FrameSet, TableRule};
 
-#[derive(Drop)]
-pub struct Live {
-    table: FrameTable,
-    ghost ok: { Sound table },
-}
+pub type Live = TableRule<OpenOnly>;
 
-impl Live {
-    pub fn new() -> Live
-        ensures { open_only (handed_out result.table) ≡ base }
-    {
-        Live {
-            table: FrameTable::new(),
-        }
-    }
-}
+#[derive(Clone, Copy)]
+pub struct OpenOnly;
 
-impl FrameRule for Live {
-    ghost means = { λ s. open_only (handed_out s.table) };
+impl FrameSet for OpenOnly {
+    ghost members = { λ m. (open_only m).counts };
 
-    ghost limit = { 64 };
+    ghost leaving = { not_below };
 
-    ghost leaves = { λ s. not_below (handed_out s.table) };
+    ghost starts = { open_only_starts };
 
-    ghost limited = { table_limited };
+    ghost opens = { λ m f. open_push f m.opened (record { number = m.next; count = 0 }) };
 
-    ghost within = { λ s. table_within s.table s.ok };
+    ghost logs = { λ m f. open_counted f m.opened };
 
-    ghost lawful = { λ s. open_only_lawful (handed_out s.table) };
+    ghost closes = { open_only_closes };
 
-    fn counts(&self, frame: u32) -> bool {
-        self.table.is_open(frame)
-    }
+    ghost lawful = { λ m _. open_only_lawful m };
 
-    fn active_frame(&self) -> u32 {
-        self.table.active_frame()
-    }
-
-    fn height(&self) -> u32 {
-        self.table.height()
-    }
-
-    fn open(&mut self) -> Result<u32, Fault> {
-        self.table.open()
-    }
-
-    fn log_given(&mut self) -> Result<u32, Fault> {
-        self.table.log_given()
-    }
-
-    fn close(&mut self) -> Result<u32, Fault> {
-        self.table.close()
+    fn contains(table: &FrameTable, frame: u32) -> bool {
+        table.is_open(frame)
     }
 }

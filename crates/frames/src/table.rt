@@ -1,9 +1,10 @@
-// The table of open frames that both rules keep: the newest is last, and numbers are never handed out twice.
-ghost use Rattle.std.specs.Prelude.{◌≡◌};
-ghost use Rattle.model.specs.Frames.{base, is_open};
+// The table of open frames: the newest is last, and numbers are never handed out twice.
+ghost use Rattle.std.specs.Prelude.{◌≡◌, false, length};
+ghost use Rattle.model.specs.Frames.{Lawful, Within, base, current, is_open, open_frame, log_frame, close_frame};
 ghost use Rattle.model.specs.Refusals.{told};
-ghost use Rattle.frames.specs.Tables.{Sound, counted_up, handed_out, last_of, table_close, table_log, table_open};
+ghost use Rattle.frames.specs.Counting.{counted_up, handing_out};
 
+use arrayvec::ArrayVec;
 use model::error::{Cause, Fault, TableName};
 use model::items::Frame;
 
@@ -13,11 +14,13 @@ const MAX_NUMBERS: u32 = 65536;
 
 const MAX_COUNT: u32 = 65536;
 
-#[derive(Clone, Copy)]
+// Base frame 0 is first, and every open number was handed out.
+#[derive(Drop)]
 pub struct FrameTable {
-    pub frames: [Frame; 64],
-    pub len: usize,
-    pub next: u32,
+    frames: ArrayVec<Frame, MAX_OPEN>,
+    next: u32,
+    ghost within: { Within 64 (handing_out frames.items next) },
+    ghost lawful: { Lawful (handing_out frames.items next) },
 }
 
 // One given more under the frame, where its count has room.
@@ -31,91 +34,72 @@ fn count_up(frame: &mut Frame) -> Result<u32, Fault>
     Ok(frame.number)
 }
 
-// Is it the number of one of these frames?
-fn is_among(frames: &[Frame], number: u32) -> bool
-    ensures { result ≡ is_open number frames.now }
-{
-    for frame in frames {
-        if frame.number == number {
-            return true;
-        }
-    }
-    false
-}
-
 impl FrameTable {
+    ghost use Rattle.std.specs.Prelude.{OnErr};
+    ghost use Rattle.frames.specs.Tables.{handed_out};
+
     // Base frame 0 is open, at count 0.
     pub fn new() -> FrameTable
-        ensures sound { Sound result }
-        ensures base { handed_out result ≡ base }
+        ensures { handed_out result ≡ base }
     {
-        FrameTable {
-            frames: [Frame {
-                number: 0,
-                count: 0,
-            }; 64],
-            len: 1,
-            next: 1,
-        }
+        let mut frames = ArrayVec::new();
+        frames.push(Frame::default());
+        FrameTable { frames, next: 1 }
     }
 
     pub fn height(&self) -> u32
-        requires { Sound self.now }
-        ensures { result ≡ self.now.len }
+        ensures { result ≡ length (handed_out self.now).opened }
     {
-        self.len as u32
+        self.frames.len() as u32
     }
 
     pub fn active_frame(&self) -> u32
-        requires { Sound self.now }
-        ensures { result ≡ (last_of self.now).number }
+        ensures { result ≡ (current (handed_out self.now).opened).number }
     {
-        self.frames[self.len - 1].number
+        self.frames[self.frames.len() - 1].number
     }
 
     pub fn is_open(&self, frame: u32) -> bool
-        requires { Sound self.now }
         ensures { result ≡ is_open frame (handed_out self.now).opened }
     {
-        is_among(&self.frames[0..self.len], frame)
+        self.frames.iter().any(|open| open.number == frame)
+    }
+
+    pub fn was_handed_out(&self, frame: u32) -> bool
+        ensures { result ≡ (handed_out self.now).counts frame }
+    {
+        frame < self.next
     }
 
     pub fn open(&mut self) -> Result<u32, Fault>
-        requires { Sound self.old }
-        ensures { (told result, self.new) ≡ table_open self.old }
+        ensures outcome { (told result, handed_out self.new) ≡ open_frame 64 (handed_out self.old) }
+        ensures kept { OnErr result (self.new ≡ self.old) }
     {
-        let len = self.len;
-        let next = self.next;
-        if len >= MAX_OPEN || next >= MAX_NUMBERS {
-            return Err(Fault::new(Cause::FrameLimit(len as u32)));
+        let number = self.next;
+        if self.frames.is_full() || number >= MAX_NUMBERS {
+            return Err(Fault::new(Cause::FrameLimit(self.height())));
         }
-        self.frames[len] = Frame {
-            number: next,
-            count: 0,
-        };
-        self.len = len + 1;
-        self.next = next + 1;
-        Ok(next)
+        self.frames.push(Frame { number, count: 0 });
+        self.next = number + 1;
+        Ok(number)
     }
 
     pub fn log_given(&mut self) -> Result<u32, Fault>
-        requires { Sound self.old }
-        ensures { (told result, self.new) ≡ table_log self.old }
+        ensures outcome { (told result, handed_out self.new) ≡ log_frame (handed_out self.old) }
+        ensures kept { OnErr result (self.new ≡ self.old) }
     {
-        let last = self.len - 1;
-        count_up(&mut self.frames[last])
+        let newest = self.frames.len() - 1;
+        count_up(&mut self.frames[newest])
     }
 
     pub fn close(&mut self) -> Result<u32, Fault>
-        requires { Sound self.old }
-        ensures { (told result, self.new) ≡ table_close self.old }
+        ensures outcome { (told result, handed_out self.new) ≡ close_frame (λ _. false) (handed_out self.old) }
+        ensures kept { OnErr result (self.new ≡ self.old) }
     {
-        let len = self.len;
-        if len <= 1 {
+        if self.frames.len() <= 1 {
             return Err(Fault::new(Cause::OnlyBase));
         }
-        let count = self.frames[len - 1].count;
-        self.len = len - 1;
-        Ok(count)
+        let closed = self.frames.pop().unwrap();
+        Ok(closed.count)
     }
 }

@@ -1,8 +1,9 @@
 // A rule that remembers the order of its closings: the open frames count, and so does the one that was closed last.
-ghost use Rattle.std.specs.Prelude.{not, ◌||◌, ◌==◌};
+ghost use Rattle.std.specs.Prelude.{not};
 ghost use Rattle.model.specs.Frames.{is_open};
-ghost use Rattle.frames.specs.Tables.{Sound, handed_out};
-ghost use Rattle.frames.specs.HandedOut.{table_limited, table_within};
+ghost use Rattle.frames.specs.Counting.{open_also};
+ghost use Rattle.frames.specs.Tables.{handed_out};
+ghost use Rattle.frames.specs.HandedOut.{table_limited};
 ghost use Rattle.frames.specs.OpenFrames.{open_also_lawful};
 
 use crate::rule::FrameRule;
@@ -13,7 +14,6 @@ use model::error::Fault;
 pub struct Recent {
     table: FrameTable,
     closed: u32,
-    ghost ok: { Sound table },
 }
 
 impl Recent {
@@ -26,7 +26,7 @@ impl Recent {
 }
 
 impl FrameRule for Recent {
-    ghost means = { λ s. record { opened = (handed_out s.table).opened; next = s.table.next; counts = λ f. is_open f (handed_out s.table).opened || (f == s.closed) } };
+    ghost means = { λ s. open_also s.closed (handed_out s.table) };
 
     ghost limit = { 64 };
 
@@ -34,9 +34,9 @@ impl FrameRule for Recent {
 
     ghost limited = { table_limited };
 
-    ghost within = { λ s. table_within s.table s.ok };
+    ghost within = { λ s. s.table.within };
 
-    ghost lawful = { λ s. open_also_lawful (handed_out s.table) s.closed };
+    ghost lawful = { λ s. open_also_lawful s.closed (handed_out s.table) };
 
     fn counts(&self, frame: u32) -> bool {
         self.table.is_open(frame) || frame == self.closed
@@ -60,12 +60,8 @@ impl FrameRule for Recent {
 
     fn close(&mut self) -> Result<u32, Fault> {
         let closed = self.table.active_frame();
-        match self.table.close() {
-            Ok(count) => {
-                self.closed = closed;
-                Ok(count)
-            }
-            Err(fault) => Err(fault),
-        }
+        let count = self.table.close()?;
+        self.closed = closed;
+        Ok(count)
     }
 }
