@@ -8,7 +8,6 @@ use Rattle.model.specs.Refusals.{Refusal, only_base}
 use Rattle.model.specs.Frames.{Frames, no_frame, is_open, before_current, current, opened_more, counted_more, closed, close_frame}
 use Rattle.frames.specs.Counting.{open_also}
 use Rattle.frames.specs.OpenFrames.{open_push, open_counted}
-use Rattle.frames.proofs.SeenOtherwise.{seen}
 
 -- the frames that are not open at a closing, of which the one closed before is the only one that counted
 abbrev pub not_open : Frames → ℕ → Bool
@@ -25,7 +24,7 @@ module _ (last : ℕ) (m : Frames) where
   closing_also h x n e = elim (cases_Bool (nat_lt 1 (length m.opened))) [
     | inl q ↦
         let p : ◌≡◌ {A = Result ℕ Refusal × Frames} (Ok x, n) (Ok (current m.opened).count, closed (λ _. false) m) = e ∙ rw q in
-        ap (seen (open_also (current m.opened).number)) p ∙ rw (q, fun_ext stays)
+        ap (λ o. (o.0, open_also (current m.opened).number o.1)) p ∙ rw (q, fun_ext stays)
     | inr q ↦ let z : ◌≡◌ {A = Result ℕ Refusal} (Ok x) (Err only_base) = ap (λ o. o.0) e ∙ rw q in absurd (let y : ◌≡◌ {A = ℕ} 0 1 = cc in omega arith)
   ]
     where

@@ -6,8 +6,8 @@ use Rattle.model.specs.Refusals.{Refusal, full}
 use Rattle.model.specs.Frames.{Frames, is_open, before_current, counted}
 
 -- these frames are open, and every number below the next one counts
-abbrev pub handing_out : List Frame → ℕ → Frames
-handing_out opened next = record { opened = opened; next = next; counts = λ f. nat_lt f next }
+abbrev pub all_below : List Frame → ℕ → Frames
+all_below opened next = record { opened = opened; next = next; counts = λ f. nat_lt f next }
 
 -- the same frames, where those of another set count
 abbrev pub counting : (Frames → ℕ → Bool) → Frames → Frames

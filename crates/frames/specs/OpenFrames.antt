@@ -37,8 +37,11 @@ more_lawful m l f e =
     let q = l f in
     grind (arith, nat_tests, q)
 
+pub written_lawful : (m : Frames) (o : Frame) → o.number ≡ (current m.opened).number → Lawful m → Lawful (record { opened = slice_set m.opened (length m.opened - 1) o; next = m.next; counts = m.counts })
+written_lawful m o e l f w = l f (rw (open_set f m.opened (length m.opened - 1) o e) at w)
+
 pub counted_lawful : (m : Frames) → Lawful m → Lawful (counted_more m)
-counted_lawful m l f e = l f (rw (open_counted f m.opened) at e)
+counted_lawful m l = written_lawful m (counted (current m.opened)) refl l
 
 pub less_lawful : (m : Frames) → Lawful m → Lawful (closed (λ _. false) m)
 less_lawful m l f e = rw (l f (open_take f (length m.opened - 1) m.opened e))

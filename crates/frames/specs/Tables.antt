@@ -1,8 +1,8 @@
 -- What a table of open frames means. Assumes nothing.
 use Rattle.model.specs.Frames.{Frames}
 use Rattle.frames.specs.declared.table.FrameTable.{FrameTable}
-use Rattle.frames.specs.Counting.{handing_out}
+use Rattle.frames.specs.Counting.{all_below}
 
 -- the frames of a table, where every number handed out counts
 abbrev pub handed_out : FrameTable → Frames
-handed_out t = handing_out t.frames.items t.next
+handed_out t = all_below t.frames.items t.next

@@ -7,7 +7,7 @@ ghost use Rattle.frames.specs.Runs.{Reaches, call_frame};
 use crate::rule::FrameRule;
 use model::error::Fault;
 
-#[derive(Clone, Copy)]
+#[derive(Clone, Copy, Debug, PartialEq, Eq)]
 pub enum FrameCall {
     Open,
     Log,

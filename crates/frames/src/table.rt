@@ -2,7 +2,7 @@
 ghost use Rattle.std.specs.Prelude.{◌≡◌, false, length};
 ghost use Rattle.model.specs.Frames.{Lawful, Within, base, current, is_open, open_frame, log_frame, close_frame};
 ghost use Rattle.model.specs.Refusals.{told};
-ghost use Rattle.frames.specs.Counting.{counted_up, handing_out};
+ghost use Rattle.frames.specs.Counting.{counted_up, all_below};
 
 use arrayvec::ArrayVec;
 use model::error::{Cause, Fault, TableName};
@@ -19,8 +19,8 @@ const MAX_COUNT: u32 = 65536;
 pub struct FrameTable {
     frames: ArrayVec<Frame, MAX_OPEN>,
     next: u32,
-    ghost within: { Within 64 (handing_out frames.items next) },
-    ghost lawful: { Lawful (handing_out frames.items next) },
+    pub ghost within: { Within 64 (all_below frames.items next) },
+    pub ghost lawful: { Lawful (all_below frames.items next) },
 }
 
 // One given more under the frame, where its count has room.
@@ -43,7 +43,7 @@ impl FrameTable {
         ensures { handed_out result ≡ base }
     {
         let mut frames = ArrayVec::new();
-        frames.push(Frame::default());
+        frames.push(Frame { number: 0, count: 0 });
         FrameTable { frames, next: 1 }
     }
 
@@ -56,7 +56,7 @@ impl FrameTable {
     pub fn active_frame(&self) -> u32
         ensures { result ≡ (current (handed_out self.now).opened).number }
     {
-        self.frames[self.frames.len() - 1].number
+        self.frames.last().unwrap().number
     }
 
     pub fn is_open(&self, frame: u32) -> bool
@@ -88,6 +88,7 @@ impl FrameTable {
         ensures outcome { (told result, handed_out self.new) ≡ log_frame (handed_out self.old) }
         ensures kept { OnErr result (self.new ≡ self.old) }
     {
+        // by index, since a proof does not see what a write through `last_mut` leaves
         let newest = self.frames.len() - 1;
         count_up(&mut self.frames[newest])
     }

@@ -1,11 +1,6 @@
-use Rattle.std.proofs.Common.{ap, ◌∙◌}
 use Rattle.frames.specs.Tables.{handed_out}
-use Rattle.frames.specs.Counting.{counting}
-use Rattle.frames.proofs.SeenOtherwise.{seen, closing_seen}
+use Rattle.frames.proofs.SeenOtherwise.{closing_seen}
 use Rattle.frames.proofs.table_rule.TableRuleFrameRule.close.Goals as goal
 
 pub returns-clause-outcome : goal.returns-clause-outcome
-returns-clause-outcome g c =
-    let set = g.S.FrameSet in
-    let m = handed_out c.args.self.now.table in
-    ap (seen (counting set.members)) c.close.ensures.outcome ∙ closing_seen set.members m (set.leaving m) (g.met.S.FrameSet.closes m)
+returns-clause-outcome g c = let m = handed_out c.args.self.now.table in closing_seen g.S.FrameSet.members m _ _ _ (g.met.S.FrameSet.closes m) c.close.ensures.outcome

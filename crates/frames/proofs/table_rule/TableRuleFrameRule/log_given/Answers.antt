@@ -1,11 +1,6 @@
-use Rattle.std.proofs.Common.{ap, ◌∙◌}
 use Rattle.frames.specs.Tables.{handed_out}
-use Rattle.frames.specs.Counting.{counting}
-use Rattle.frames.proofs.SeenOtherwise.{seen, logging_seen}
+use Rattle.frames.proofs.SeenOtherwise.{logging_seen}
 use Rattle.frames.proofs.table_rule.TableRuleFrameRule.log_given.Goals as goal
 
 pub returns-clause-outcome : goal.returns-clause-outcome
-returns-clause-outcome g c =
-    let set = g.S.FrameSet in
-    let m = handed_out c.args.self.now.table in
-    ap (seen (counting set.members)) c.log_given.ensures.outcome ∙ logging_seen set.members m (g.met.S.FrameSet.logs m)
+returns-clause-outcome g c = let m = handed_out c.args.self.now.table in logging_seen g.S.FrameSet.members m _ _ (g.met.S.FrameSet.logs m) c.log_given.ensures.outcome

@@ -1,7 +1,6 @@
-use Rattle.std.proofs.Common.{ap, ◌∙◌}
 use Rattle.frames.specs.Counting.{open_also}
 use Rattle.frames.specs.Tables.{handed_out}
-use Rattle.frames.proofs.SeenOtherwise.{seen, logging_seen}
+use Rattle.frames.proofs.SeenOtherwise.{logging_seen}
 use Rattle.frames.proofs.LastClosed.{also_logs}
 use Rattle.frames.proofs.tests.recent.RecentFrameRule.log_given.Goals as goal
 
@@ -9,4 +8,4 @@ pub returns-clause-outcome : goal.returns-clause-outcome
 returns-clause-outcome c =
     let s = c.args.self.now in
     let m = handed_out s.table in
-    ap (seen (open_also s.closed)) c.log_given.ensures.outcome ∙ logging_seen (λ n. (open_also s.closed n).counts) m (also_logs s.closed m)
+    logging_seen (λ n. (open_also s.closed n).counts) m _ _ (also_logs s.closed m) c.log_given.ensures.outcome
