@@ -1,7 +1,8 @@
 -- Which frames are open, and that every open frame counts.
-use Rattle.std.specs.Prelude.{◌≡◌, ℕ, zero, suc, ◌+◌, ◌-◌, ◌<◌, Bool, true, false, cond, not, ◌&&◌, ◌||◌, List, [], ◌∷◌, ◌++◌, length, take, drop, Result, ◌==◌, ◌≢◌, nat_lt, slice_index_or, slice_set, refl}
+use Rattle.std.specs.Prelude.{◌≡◌, ℕ, zero, suc, ◌+◌, ◌-◌, ◌<◌, ◌≤◌, Bool, true, false, cond, not, ◌&&◌, ◌||◌, List, [], ◌∷◌, ◌++◌, length, take, drop, Result, ◌==◌, ◌≢◌, nat_lt, slice_index_or, slice_set, refl}
 use Rattle.std.proofs.Common.{ap, inl, inr, arith}
 use Rattle.std.proofs.lemmas.Bool.{cases_Bool}
+use Rattle.std.proofs.lemmas.List.Recursion.{or_push}
 use Rattle.std.proofs.lemmas.Bool.Decides.{nat_tests}
 use Rattle.std.proofs.Math.Bool.{or-false}
 use Rattle.model.specs.declared.items.Frame.{Frame}
@@ -10,8 +11,7 @@ use Rattle.model.specs.Frames.{Frames, Lawful, no_frame, base, is_open, current,
 use Rattle.frames.specs.Counting.{open_only, open_also, not_below, counted_up}
 
 pub open_push : (f : ℕ) (os : List Frame) (o : Frame) → is_open f (os ++ (o ∷ [])) ≡ (is_open f os || f == o.number)
-open_push f [] o = grind (arith, nat_tests)
-open_push f (x ∷ xs) o = let ih = open_push f xs o in grind (arith, nat_tests)
+open_push f os o = or_push (is_open f) (λ x. f == x.number) refl (λ _ _. refl) os o
 
 -- a record is written under its own number
 pub open_set : (f : ℕ) (os : List Frame) (i : ℕ) (o : Frame) → o.number ≡ (slice_index_or os i no_frame).number → is_open f (slice_set os i o) ≡ is_open f os
@@ -71,3 +71,7 @@ opening_lawful limit m l = after Lawful (nat_lt (length m.opened) limit && nat_l
 
 pub logging_lawful : (m : Frames) → Lawful m → Lawful (log_frame m).1
 logging_lawful m l = after Lawful (nat_lt (current m.opened).count 65536) _ _ (counted_lawful m l) l
+
+-- the limit of every rule over a table of frames
+pub table_limited : (1 ≤ 64) × (64 ≤ 64)
+table_limited = (omega arith, omega arith)

@@ -43,7 +43,10 @@ impl FrameTable {
         ensures { handed_out result ≡ base }
     {
         let mut frames = ArrayVec::new();
-        frames.push(Frame { number: 0, count: 0 });
+        frames.push(Frame {
+            number: 0,
+            count: 0,
+        });
         FrameTable { frames, next: 1 }
     }
 
@@ -80,7 +83,7 @@ impl FrameTable {
             return Err(Fault::new(Cause::FrameLimit(self.height())));
         }
         self.frames.push(Frame { number, count: 0 });
-        self.next = number + 1;
+        self.next += 1;
         Ok(number)
     }
 

@@ -3,7 +3,7 @@ ghost use Rattle.std.specs.Prelude.{◌≡◌, ℕ, Bool, false, not, ◌&&◌, 
 ghost use Rattle.model.specs.Frames.{Frames, Lawful, base, opened_more, counted_more, closed};
 ghost use Rattle.frames.specs.Counting.{counting};
 ghost use Rattle.frames.specs.Tables.{handed_out};
-ghost use Rattle.frames.specs.HandedOut.{table_limited};
+ghost use Rattle.frames.specs.OpenFrames.{table_limited};
 
 use crate::rule::FrameRule;
 use crate::table::FrameTable;

@@ -10,13 +10,9 @@ use std::process::Abort;
 use std::test::Fail;
 
 fn answers(rt: &impl Abort, r: Result<u32, Fault>, number: u32) -> Result<(), Fail> {
-    match r {
-        Ok(n) => {
-            assert_eq!(rt; n, number);
-            Ok(())
-        },
-        Err(_) => Err(Fail::new("refused")),
-    }
+    let n = r.map_err(|_| Fail::new("refused"))?;
+    assert_eq!(rt; n, number);
+    Ok(())
 }
 
 // 64 frames may be open, base frame 0 among them.

@@ -3,8 +3,7 @@ ghost use Rattle.std.specs.Prelude.{not};
 ghost use Rattle.model.specs.Frames.{is_open};
 ghost use Rattle.frames.specs.Counting.{open_also};
 ghost use Rattle.frames.specs.Tables.{handed_out};
-ghost use Rattle.frames.specs.HandedOut.{table_limited};
-ghost use Rattle.frames.specs.OpenFrames.{open_also_lawful};
+ghost use Rattle.frames.specs.OpenFrames.{open_also_lawful, table_limited};
 
 use crate::rule::FrameRule;
 use crate::table::FrameTable;
