@@ -1,5 +1,5 @@
 -- What a call comes to stays so where other frames of the table count.
-use Rattle.std.proofs.Common.{◌≡◌, ℕ, Bool, true, false, cond, not, ◌&&◌, ◌||◌, ◌==◌, nat_lt, length, Result, refl, ap, ◌∙◌}
+use Rattle.std.proofs.Common.{◌≡◌, ℕ, Bool, true, false, cond, not, ◌&&◌, ◌||◌, ◌==◌, nat_lt, length, Result, ap, ◌∙◌}
 use mathlib.Core.Path.{fun_ext}
 use Rattle.model.specs.Refusals.{Refusal}
 use Rattle.model.specs.Frames.{Frames, current, opened_more, counted_more, closed, open_frame, log_frame, close_frame}

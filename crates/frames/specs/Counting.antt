@@ -1,5 +1,5 @@
 -- What a list of open frames and the next number mean. Assumes nothing.
-use Rattle.std.specs.Prelude.{◌≡◌, ℕ, Bool, cond, not, ◌||◌, List, Ok, Err, Result, ◌==◌, nat_lt}
+use Rattle.std.specs.Prelude.{ℕ, Bool, cond, not, ◌||◌, List, Ok, Err, Result, ◌==◌, nat_lt}
 use Rattle.model.specs.declared.items.Frame.{Frame}
 use Rattle.model.specs.declared.error.TableName.TheVariants.{FrameCount}
 use Rattle.model.specs.Refusals.{Refusal, full}

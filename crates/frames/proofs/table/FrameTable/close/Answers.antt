@@ -1,4 +1,3 @@
-use Rattle.std.proofs.Common.{◌≡◌, arith}
 use Rattle.frames.specs.OpenFrames.{open_take}
 use Rattle.frames.proofs.table.FrameTable.close.Goals as goal
 

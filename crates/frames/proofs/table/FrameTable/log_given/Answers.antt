@@ -1,4 +1,4 @@
-use Rattle.std.proofs.Common.{◌≡◌, length, slice_set, ap, sym, ◌∙◌, ◌-◌}
+use Rattle.std.proofs.Common.{length, slice_set, ap, sym, ◌∙◌, ◌-◌}
 use Rattle.std.proofs.lemmas.List.{length-set}
 use Rattle.arrayvec.proofs.ArrayVecLemmas.{items-with_items}
 use Rattle.model.specs.Frames.{is_open}
