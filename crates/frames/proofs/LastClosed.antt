@@ -9,7 +9,7 @@ use Rattle.model.specs.Frames.{Frames, no_frame, is_open, before_current, curren
 use Rattle.frames.specs.Counting.{open_also}
 use Rattle.frames.specs.OpenFrames.{open_push, open_counted}
 
--- the frames that are not open at a closing, of which the one closed before is the only one that counted
+-- at a closing the frame closed before leaves
 abbrev pub not_open : Frames → ℕ → Bool
 not_open m f = not (is_open f m.opened)
 

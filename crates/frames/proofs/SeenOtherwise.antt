@@ -1,4 +1,4 @@
--- What a call comes to stays so where other frames of the table count.
+-- What a call comes to where another set of frames counts.
 use Rattle.std.proofs.Common.{◌≡◌, ℕ, Bool, true, false, cond, not, ◌&&◌, ◌||◌, ◌==◌, nat_lt, length, Result, ap, ◌∙◌}
 use mathlib.Core.Path.{fun_ext}
 use Rattle.model.specs.Refusals.{Refusal}

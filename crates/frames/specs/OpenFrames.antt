@@ -27,6 +27,7 @@ open_take f (suc n) (x ∷ xs) e = let ih : is_open f (take n xs) ≡ true → i
 pub open_counted : (f : ℕ) (os : List Frame) → is_open f (slice_set os (length os - 1) (counted (current os))) ≡ is_open f os
 open_counted f os = open_set f os (length os - 1) (counted (current os)) refl
 
+-- a frame keeps its number, counted up or full
 pub counted_up_number : (o : Frame) → (counted_up o).1.number ≡ o.number
 counted_up_number o = elim (cases_Bool (nat_lt o.count 65536)) [ inl q ↦ rw q refl | inr q ↦ rw q refl ]
 
@@ -50,15 +51,15 @@ less_lawful m l f e = rw (l f (open_take f (length m.opened - 1) m.opened e))
 pub open_only_lawful : (m : Frames) → Lawful (open_only m)
 open_only_lawful m f e = e
 
+pub open_also_lawful : (last : ℕ) (m : Frames) → Lawful (open_also last m)
+open_also_lawful last m f e = grind (arith, nat_tests, e)
+
 -- where the open frames alone count, at the start and at a closing
 pub open_only_starts : (f : ℕ) → (open_only base).counts f ≡ base.counts f
 open_only_starts f = or-false (f == 0)
 
 pub open_only_closes : (m : Frames) (f : ℕ) → (open_only (closed (λ _. false) m)).counts f ≡ ((open_only m).counts f && not (not_below m f))
 open_only_closes m f = let p = open_take f (length m.opened - 1) m.opened in grind (arith, nat_tests, p)
-
-pub open_also_lawful : (last : ℕ) (m : Frames) → Lawful (open_also last m)
-open_also_lawful last m f e = grind (arith, nat_tests, e)
 
 -- what holds after a call is shown where it is granted and where it is refused
 after : (P : Frames → Type 0) (test : Bool) (granted refused : Result ℕ Refusal × Frames) → P granted.1 → P refused.1 → P (cond test granted refused).1

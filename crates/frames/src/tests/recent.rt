@@ -1,4 +1,5 @@
 // A rule that remembers the order of its closings: the open frames count, and so does the one that was closed last.
+// It is a rule of its own, since a `FrameSet` has no state.
 ghost use Rattle.std.specs.Prelude.{not};
 ghost use Rattle.model.specs.Frames.{is_open};
 ghost use Rattle.frames.specs.Counting.{open_also};
