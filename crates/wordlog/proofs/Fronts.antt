@@ -6,11 +6,6 @@ use Rattle.model.specs.Format.{Call, given}
 use Rattle.model.specs.Explanations.{pairs_of}
 use Rattle.wordlog.specs.Reading.{all_plain, given_from, congruence_from, taking, given_front, front, front_of}
 
-pub congruence_reads : (ws : List ℕ) → 2 < length ws → (length ws - 2) % 2 ≡ 0 → congruence_from ws ≡ Some (given (get_or ws 0 0) (get_or ws 1 0) (Congruence (pairs_of (drop 2 ws))))
-congruence_reads [] l e = absurd (omega arith)
-congruence_reads (a ∷ []) l e = absurd (omega arith)
-congruence_reads (a ∷ b ∷ ws) l e = grind (arith, nat_tests)
-
 pub front_reads : (ws : List ℕ) → 0 < length ws → front ws ≡ front_of (get_or ws 0 0 / 2 ^ 28) (get_or ws 0 0 % 2 ^ 28) (drop 1 ws)
 front_reads [] l = absurd (omega arith)
 front_reads (w ∷ ws) l = refl

@@ -4,6 +4,6 @@ pub mod PairWords
 pub mod Heads
 pub mod Accepted
 pub mod Completeness
-pub mod Places
 pub mod Records
 pub mod Words
+pub mod Unnamed

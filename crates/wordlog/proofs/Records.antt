@@ -5,7 +5,7 @@ use Rattle.std.proofs.lemmas.List.{places, same_lists}
 use Rattle.model.specs.Format.{pair_words, given_head, words, AllPlain, Allowed}
 use Rattle.wordlog.specs.Calls.{congruence}
 use Rattle.model.specs.Explanations.{pairs_of}
-use Rattle.wordlog.specs.Writing.{Puts, Writes}
+use Rattle.wordlog.specs.Writing.{Puts, PutsGiven, Writes}
 use Rattle.wordlog.proofs.PairWords.{pair_words_length}
 
 -- a head, and two parts behind it
@@ -19,17 +19,12 @@ puts_as P Q us ws before after None forth back e p = (p.0, λ q. subst (λ vs. l
 puts_as P Q us ws before after (Some n) forth back e p = (forth p.0, p.1 ∙ ap length e, p.2, p.3 ∙ ap (λ vs. vs ++ drop n before) e)
 
 -- part has the words of the pairs
-module _ (a b : ℕ) (ws part : List ℕ) (is : pair_words (pairs_of ws) ≡ part) where
-  pub congruence_refused : (length part ≡ 0) ⊎ (2 ^ 24 - 2 ≤ length part) → Allowed (congruence a b ws) → ⊥
-  congruence_refused (inl none) p = omega (arith, ap length is, pair_words_length (pairs_of ws))
-  congruence_refused (inr many) p = omega (arith, ap length is)
-
-  pub congruence_writes : (head : ℕ) (before after : List ℕ) (r : Option ℕ) → head ≡ given_head 2 (2 + length part) → 0 < length part → length part < 2 ^ 24 - 2 → Puts (AllPlain (a ∷ b ∷ part)) (head ∷ a ∷ b ∷ part) before r after → Writes (congruence a b ws) before r after
-  congruence_writes head before after r h some few p =
-      let n = ap length is in
-      let pairs = pair_words_length (pairs_of ws) in
-      puts_as _ (Allowed (congruence a b ws)) (head ∷ a ∷ b ∷ part) (words (congruence a b ws)) before after r
-      (λ q. (q.0, q.1.0, subst AllPlain (sym is) q.1.1, omega arith, omega arith))
-      (λ q. (q.0, (q.1, subst AllPlain is q.2)))
-      (cc)
-      p
+pub congruence_writes : (a b : ℕ) (ws part before after : List ℕ) (r : Option ℕ) → pair_words (pairs_of ws) ≡ part → 0 < length part → PutsGiven 2 (a ∷ b ∷ part) before r after → Writes (congruence a b ws) before r after
+congruence_writes a b ws part before after r is some p =
+    let n = ap length is in
+    let pairs = pair_words_length (pairs_of ws) in
+    puts_as (AllPlain (a ∷ b ∷ part) × (length (a ∷ b ∷ part) < 2 ^ 24)) (Allowed (congruence a b ws)) (given_head 2 (length (a ∷ b ∷ part)) ∷ a ∷ b ∷ part) (words (congruence a b ws)) before after r
+    (λ q. (q.0.0, q.0.1.0, subst AllPlain (sym is) q.0.1.1, omega arith, omega arith))
+    (λ q. ((q.0, (q.1, subst AllPlain is q.2)), omega arith))
+    (let head : length (a ∷ b ∷ part) ≡ 2 + length (pair_words (pairs_of ws)) = omega arith in cc)
+    p

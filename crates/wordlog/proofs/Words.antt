@@ -1,6 +1,7 @@
 -- The words in some bytes by their places, and a list filled with them.
 use Rattle.std.proofs.Common.{◌≡◌, ℕ, zero, suc, ◌+◌, ◌*◌, ◌/◌, ◌<◌, List, [], ◌∷◌, ◌++◌, length, get_or, take, drop, set, sym, refl, ap, ◌∙◌, arith}
 use Rattle.std.proofs.lemmas.List.{append_assoc, length-take-le, set_at, take_more, drop_more}
+use Rattle.std.specs.Simd.{first_chunks}
 use Rattle.wordlog.specs.Bytes.{word_from, words_in}
 
 pub words_in_length : (bs : List ℕ) → length (words_in bs) ≡ length bs / 4
@@ -26,6 +27,16 @@ words_in_at (a ∷ b ∷ c ∷ d ∷ bs) (suc i) l =
     ap (word_from (a ∷ b ∷ c ∷ d ∷ bs)) n
     ∙ sym (word_further a b c d (4 * i) bs)
     ∙ words_in_at bs i (omega arith)
+
+-- the bytes in fours
+pub chunk_word : (k i : ℕ) (bs : List ℕ) (d : List ℕ) → k ≡ length bs / 4 → i < k → word_from (get_or (first_chunks 4 k bs) i d) 0 ≡ get_or (words_in bs) i 0
+chunk_word zero i bs d e l = absurd (omega arith)
+chunk_word (suc k) i [] d e l = absurd (omega arith)
+chunk_word (suc k) i (a ∷ []) d e l = absurd (omega arith)
+chunk_word (suc k) i (a ∷ b ∷ []) d e l = absurd (omega arith)
+chunk_word (suc k) i (a ∷ b ∷ c ∷ []) d e l = absurd (omega arith)
+chunk_word (suc k) zero (a ∷ b ∷ c ∷ e ∷ bs) d n l = refl
+chunk_word (suc k) (suc i) (a ∷ b ∷ c ∷ e ∷ bs) d n l = chunk_word k i bs d (omega arith) (omega arith)
 
 -- one word more
 pub filled_more : (ws out : List ℕ) (i w : ℕ) → i < length ws → i < length out → w ≡ get_or ws i 0 → set (take i ws ++ drop i out) i w ≡ take (i + 1) ws ++ drop (i + 1) out

@@ -1,10 +1,11 @@
 -- The code's calls as the calls of the definitions. Assumes nothing.
-use Rattle.std.specs.Prelude.{ℕ, ◌+◌, ◌*◌, Bool, cond, List, Some, None, Option}
+use Rattle.std.specs.Prelude.{◌≡◌, ℕ, ◌+◌, ◌*◌, ◌≤◌, Bool, cond, List, Some, None, Option, Result, MatchResult}
 use Rattle.model.specs.declared.items.EqualityExpl.{EqualityExpl}
 use Rattle.model.specs.Records.{Congruence}
 use Rattle.model.specs.Explanations.{pairs_of, from_of, to_of, kind_of}
 use Rattle.model.specs.Format.{Call, enode, given, open_frame, close_frame, ask}
 use Rattle.wordlog.specs.declared.call.TransEqAllowed.{TransEqAllowed}
+use Rattle.wordlog.specs.declared.call.UnknownNumber.{UnknownNumber}
 use Rattle.wordlog.specs.declared.call.Call.{Call as CodeCall}
 use Rattle.wordlog.specs.declared.call.Call.TheVariants.{Enode, Given, Open, Close, Ask}
 
@@ -13,6 +14,10 @@ flag b = cond b 1 0
 
 abbrev pub permission : TransEqAllowed → ℕ
 permission p = flag p.can_mismatch_initial + 2 * flag p.can_mismatch_congr
+
+-- the permissions that this number stands for, or a number that stands for none
+abbrev pub Permits : ℕ → Result TransEqAllowed UnknownNumber → Type 0
+Permits n r = MatchResult r (λ p. permission p ≡ n) (λ e. (e.0 ≡ n) × (4 ≤ n))
 
 -- a congruence with the words of its arguments
 abbrev pub congruence : ℕ → ℕ → List ℕ → Call

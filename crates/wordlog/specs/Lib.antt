@@ -1,4 +1,5 @@
 pub mod Calls
+pub mod Kinds
 pub mod Reading
 pub mod Log
 pub mod Writing

@@ -1,5 +1,6 @@
 -- Which call stands at the front of some words. Assumes nothing.
 use Rattle.std.specs.Prelude.{◌≡◌, ℕ, ◌+◌, ◌/◌, ◌%◌, ◌^◌, ◌≤◌, Bool, true, cond, ◌&&◌, List, [], ◌∷◌, ◌++◌, length, take, Some, None, Option, ◌==◌, nat_le, nat_lt}
+use Rattle.std.specs.List.{list_all}
 use Rattle.model.specs.Records.{Kind, Root, Axiom, Literal, Theory, Unknown, Congruence}
 use Rattle.model.specs.Format.{Call, enode, given, open_frame, close_frame, ask, words, Allowed}
 use Rattle.model.specs.Explanations.{pairs_of}
@@ -15,8 +16,7 @@ abbrev pub plain : ℕ → Bool
 plain w = nat_lt w (2 ^ 28)
 
 abbrev pub all_plain : List ℕ → Bool
-all_plain [] = true
-all_plain (w ∷ ws) = plain w && all_plain ws
+all_plain = list_all plain
 
 -- a root's words: its enode
 abbrev pub root_from : List ℕ → Option Call

@@ -2,15 +2,20 @@
 ghost use Rattle.std.specs.Prelude.{◌≡◌, ◌*◌, ◌/◌, ◌<◌, ◌≤◌, length, MatchOption};
 ghost use Rattle.wordlog.specs.Bytes.{word_from, words_in, fitting, filled};
 
-// The word at a place, its lowest byte first; None past the last whole word.
+// The lowest byte stands first.
+fn word_of(four: &[u8; 4]) -> u32
+    ensures { result ≡ word_from four.now 0 }
+{
+    u32::from_le_bytes(*four)
+}
+
+// The word at a place; None past the last whole word.
 pub fn word_at(bytes: &[u8], i: usize) -> Option<u32>
     ensures { MatchOption result (length bytes.now / 4 ≤ i) (λ w. (i < length bytes.now / 4) × (w ≡ word_from bytes.now (4 * i))) }
 {
-    if i >= bytes.len() / 4 {
-        return None;
-    }
-    let at = 4 * i;
-    Some(u32::from_le_bytes([bytes[at], bytes[at + 1], bytes[at + 2], bytes[at + 3]]))
+    let (fours, _) = bytes.as_chunks::<4>();
+    let four = fours.get(i)?;
+    Some(word_of(four))
 }
 
 // Fills `out` from its front with the whole words, as many as there are places, and answers how many.
@@ -18,11 +23,10 @@ pub fn words_of(bytes: &[u8], out: &mut [u32]) -> usize
     ensures count { result ≡ fitting (words_in bytes.now) out.old }
     ensures filled { out.new ≡ filled (words_in bytes.now) out.old }
 {
-    for i in 0..out.len() {
-        let Some(word) = word_at(bytes, i) else {
-            return i;
-        };
-        out[i] = word;
+    let (fours, _) = bytes.as_chunks::<4>();
+    let count = fours.len().min(out.len());
+    for (i, four) in fours[..count].iter().enumerate() {
+        out[i] = word_of(four);
     }
-    out.len()
+    count
 }

@@ -1,8 +1,11 @@
 // The five calls that a log holds.
+ghost use Rattle.std.specs.Prelude.{◌≡◌};
+ghost use Rattle.wordlog.specs.Calls.{permission, Permits};
+
 use model::items::EqualityExpl;
 
 // Which mismatches a question may meet: in itself, and in its arguments.
-#[derive(Clone, Copy)]
+#[derive(Clone, Copy, Debug, PartialEq, Eq)]
 pub struct TransEqAllowed {
     pub can_mismatch_initial: bool,
     pub can_mismatch_congr: bool,
@@ -23,4 +26,33 @@ pub enum Call<'a> {
         from: u32,
         to: u32,
     },
+}
+
+// A number to which a log gives no meaning.
+#[derive(Clone, Copy, Debug, PartialEq, Eq)]
+pub struct UnknownNumber(pub u32);
+
+// Two bits, the lower one for the question itself.
+impl From<TransEqAllowed> for u32 {
+    ghost from_gives = { λ allowed n. n ≡ permission allowed };
+
+    fn from(allowed: TransEqAllowed) -> u32 {
+        u32::from(allowed.can_mismatch_initial) + 2 * u32::from(allowed.can_mismatch_congr)
+    }
+}
+
+impl TryFrom<u32> for TransEqAllowed {
+    type Error = UnknownNumber;
+
+    ghost try_from_gives = { Permits };
+
+    fn try_from(payload: u32) -> Result<Self, UnknownNumber> {
+        if payload >= 4 {
+            return Err(UnknownNumber(payload));
+        }
+        Ok(TransEqAllowed {
+            can_mismatch_initial: payload % 2 == 1,
+            can_mismatch_congr: payload / 2 == 1,
+        })
+    }
 }

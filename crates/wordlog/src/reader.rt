@@ -5,7 +5,8 @@ ghost use Rattle.wordlog.specs.Reading.{front, Accepts, Complete};
 ghost use Rattle.wordlog.specs.Log.{next, next_as, Within, moved, answer_as, words_read, ragged_read};
 
 use crate::call::Call;
-use crate::shapes::read_kind;
+use crate::kind::RecordKind;
+use crate::shapes::read_record;
 use crate::word::PAYLOADS;
 use model::error::{Cause, Fault};
 
@@ -18,56 +19,63 @@ pub fn read_call<'a>(words: &'a [u32]) -> Option<(Call<'a>, usize)>
     let [head, rest @ ..] = words else {
         return None;
     };
-    read_kind(*head / PAYLOADS, *head % PAYLOADS, rest)
+    let kind = RecordKind::try_from(*head / PAYLOADS).ok()?;
+    read_record(kind, *head % PAYLOADS, rest)
 }
 
 // No more words of a log are read.
 const LIMIT: usize = 16_384;
 
-// Reads a log call by call: its words, the place of the next one, and whether one to three bytes are left over behind them.
-#[derive(Drop)]
-pub struct Reader<'a> {
-    words: &'a [u32],
-    at: usize,
-    ragged: bool,
-    ghost short: { length words.now ≤ 16384 },
-    ghost within: { at ≤ length words.now },
+// The words of a log, and whether one to three bytes are left over behind them.
+#[derive(Clone, Copy, Debug, PartialEq, Eq)]
+pub struct Log<'a> {
+    pub words: &'a [u32],
+    pub ragged: bool,
 }
 
-// The call at a place of the words, and the place behind it.
-fn call_at<'a>(
-    words: &'a [u32],
-    ragged: bool,
-    at: usize,
-) -> Result<(Option<Call<'a>>, usize), Fault>
-    requires { (at ≤ length words.now) × (length words.now ≤ 16384) }
-    ensures is { next_as result ≡ next words.now ragged at }
-    ensures within { Within result (length words.now) }
-{
-    if at == words.len() {
-        if ragged {
-            return Err(Fault::new(Cause::Unreadable(at as u32)));
+impl<'a> Log<'a> {
+    // The call at a place of the words, and the place behind it.
+    fn call_at(self, at: usize) -> Result<(Option<Call<'a>>, usize), Fault>
+        requires { (at ≤ length self.words.now) × (length self.words.now ≤ 16384) }
+        ensures is { next_as result ≡ next self.entry.words.now self.entry.ragged at }
+        ensures within { Within result (length self.entry.words.now) }
+    {
+        let refused = Fault::new(Cause::Unreadable(at as u32));
+        if at < self.words.len() {
+            let (call, taken) = read_call(&self.words[at..]).ok_or(refused)?;
+            return Ok((Some(call), at + taken));
         }
-        return Ok((None, at));
+        if self.ragged {
+            Err(refused)
+        } else {
+            Ok((None, at))
+        }
     }
-    let Some((call, taken)) = read_call(&words[at..]) else {
-        return Err(Fault::new(Cause::Unreadable(at as u32)));
-    };
-    Ok((Some(call), at + taken))
+}
+
+// Reads a log call by call, from the place of the next one.
+#[derive(Drop)]
+pub struct Reader<'a> {
+    log: Log<'a>,
+    at: usize,
+    ghost short: { length log.words.now ≤ 16384 },
+    ghost within: { at ≤ length log.words.now },
 }
 
 impl<'a> Reader<'a> {
     // Keeps the words within the limit; what is left over behind the limit is not read.
-    pub fn new(words: &'a [u32], ragged: bool) -> Reader<'a>
-        ensures words { result.words.now ≡ words_read words.now }
-        ensures ragged { result.ragged ≡ ragged_read words.now ragged }
+    pub fn new(log: Log<'a>) -> Reader<'a>
+        ensures words { result.log.words.now ≡ words_read log.entry.words.now }
+        ensures ragged { result.log.ragged ≡ ragged_read log.entry.words.now log.entry.ragged }
         ensures at { result.at ≡ 0 }
     {
-        let count = words.len().min(LIMIT);
+        let count = log.words.len().min(LIMIT);
         Reader {
-            words: &words[0..count],
+            log: Log {
+                words: &log.words[..count],
+                ragged: log.words.len() < LIMIT && log.ragged,
+            },
             at: 0,
-            ragged: words.len() < LIMIT && ragged,
         }
     }
 
@@ -80,11 +88,11 @@ impl<'a> Reader<'a> {
 
     // The next call; None at the end of the log. A fault leaves the reader as it is.
     pub fn next_call(&mut self) -> Result<Option<Call<'a>>, Fault>
-        ensures outcome { (answer_as result, self.new.at) ≡ moved self.old.at (next self.old.words.now self.old.ragged self.old.at) }
-        ensures words { self.new.words.now ≡ self.old.words.now }
-        ensures ragged { self.new.ragged ≡ self.old.ragged }
+        ensures outcome { (answer_as result, self.new.at) ≡ moved self.old.at (next self.old.log.words.now self.old.log.ragged self.old.at) }
+        ensures words { self.new.log.words.now ≡ self.old.log.words.now }
+        ensures ragged { self.new.log.ragged ≡ self.old.log.ragged }
     {
-        let (call, behind) = call_at(self.words, self.ragged, self.at)?;
+        let (call, behind) = self.log.call_at(self.at)?;
         self.at = behind;
         Ok(call)
     }

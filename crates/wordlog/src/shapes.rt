@@ -1,10 +1,12 @@
 // The shapes of records: what stands behind a head of each kind.
 ghost use Rattle.std.specs.Prelude.{◌≡◌};
-ghost use Rattle.wordlog.specs.Calls.{front_as, given_as};
+ghost use Rattle.wordlog.specs.Calls.{front_as, given_as, permission};
+ghost use Rattle.wordlog.specs.Kinds.{record_number, given_number};
 ghost use Rattle.wordlog.specs.Reading.{given_from, congruence_from, given_front, ask_front, front_of};
 
 use crate::call::{Call, TransEqAllowed};
-use crate::word::{COUNTS, PAYLOADS, all_plain};
+use crate::kind::{GivenKind, RecordKind};
+use crate::word::{COUNTS, all_plain, is_plain};
 use model::items::{ArgPairs, EqualityExpl};
 
 // A congruence has at least one argument pair, and no odd last word.
@@ -25,49 +27,30 @@ fn congruence<'a>(words: &'a [u32]) -> Option<EqualityExpl<'a>>
 }
 
 // The given of that kind with these plain words: as many as it has, and no more.
-fn given_of<'a>(kind: u32, words: &'a [u32]) -> Option<EqualityExpl<'a>>
-    ensures { given_as result ≡ given_from kind words.now }
+fn given_of<'a>(kind: GivenKind, words: &'a [u32]) -> Option<EqualityExpl<'a>>
+    ensures { given_as result ≡ given_from (given_number kind) words.now }
 {
     match (kind, words) {
-        (0, [id]) => Some(EqualityExpl::Root { id: *id }),
-        (1, [from, to, eq]) => Some(EqualityExpl::Literal {
-            from: *from,
-            eq: *eq,
-            to: *to,
-        }),
-        (2, _) => congruence(words),
-        (3, [from, to, theory]) => Some(EqualityExpl::Theory {
-            from: *from,
-            theory: *theory,
-            to: *to,
-        }),
-        (4, [from, to]) => Some(EqualityExpl::Axiom {
-            from: *from,
-            to: *to,
-        }),
-        (5, [from, to, kind]) => Some(EqualityExpl::Unknown {
-            kind: *kind,
-            from: *from,
-            to: *to,
-        }),
+        (GivenKind::Root, &[id]) => Some(EqualityExpl::Root { id }),
+        (GivenKind::Literal, &[from, to, eq]) => Some(EqualityExpl::Literal { from, eq, to }),
+        (GivenKind::Congruence, _) => congruence(words),
+        (GivenKind::Theory, &[from, to, theory]) => Some(EqualityExpl::Theory { from, theory, to }),
+        (GivenKind::Axiom, &[from, to]) => Some(EqualityExpl::Axiom { from, to }),
+        (GivenKind::Unknown, &[from, to, kind]) => Some(EqualityExpl::Unknown { kind, from, to }),
         _ => None,
     }
 }
 
-// The payload of a question is its two permissions.
-fn read_ask<'a>(payload: u32, rest: &'a [u32]) -> Option<(Call<'a>, usize)>
-    ensures { front_as result ≡ ask_front payload rest.now }
+// Behind a question's head stand its two enodes.
+fn read_ask<'a>(allowed: TransEqAllowed, rest: &'a [u32]) -> Option<(Call<'a>, usize)>
+    ensures { front_as result ≡ ask_front (permission allowed) rest.now }
 {
     let [from, to, ..] = rest else {
         return None;
     };
-    if payload >= 4 || *from >= PAYLOADS || *to >= PAYLOADS {
+    if !is_plain(*from) || !is_plain(*to) {
         return None;
     }
-    let allowed = TransEqAllowed {
-        can_mismatch_initial: payload % 2 == 1,
-        can_mismatch_congr: payload / 2 == 1,
-    };
     Some((
         Call::Ask {
             allowed,
@@ -79,13 +62,10 @@ fn read_ask<'a>(payload: u32, rest: &'a [u32]) -> Option<(Call<'a>, usize)>
 }
 
 // The words that the head counts have to be there, and to be plain.
-fn read_given<'a>(kind: u32, count: usize, rest: &'a [u32]) -> Option<(Call<'a>, usize)>
-    ensures { front_as result ≡ given_front kind count rest.now }
+fn read_given<'a>(kind: GivenKind, count: usize, rest: &'a [u32]) -> Option<(Call<'a>, usize)>
+    ensures { front_as result ≡ given_front (given_number kind) count rest.now }
 {
-    if count > rest.len() {
-        return None;
-    }
-    let words = &rest[0..count];
+    let words = rest.get(..count)?;
     if !all_plain(words) {
         return None;
     }
@@ -94,15 +74,22 @@ fn read_given<'a>(kind: u32, count: usize, rest: &'a [u32]) -> Option<(Call<'a>,
 }
 
 // The call whose head has that kind and payload, and these words behind it.
-pub(crate) fn read_kind<'a>(kind: u32, payload: u32, rest: &'a [u32]) -> Option<(Call<'a>, usize)>
-    ensures { front_as result ≡ front_of kind payload rest.now }
+pub(crate) fn read_record<'a>(
+    kind: RecordKind,
+    payload: u32,
+    rest: &'a [u32],
+) -> Option<(Call<'a>, usize)>
+    ensures { front_as result ≡ front_of (record_number kind) payload rest.now }
 {
     match kind {
-        1 => Some((Call::Enode { owner: payload }, 1)),
-        2 => read_given(payload / COUNTS, (payload % COUNTS) as usize, rest),
-        3 if payload == 0 => Some((Call::Open, 1)),
-        4 if payload == 0 => Some((Call::Close, 1)),
-        5 => read_ask(payload, rest),
-        _ => None,
+        RecordKind::Enode => Some((Call::Enode { owner: payload }, 1)),
+        RecordKind::Given => {
+            let kind = GivenKind::try_from(payload / COUNTS).ok()?;
+            read_given(kind, (payload % COUNTS) as usize, rest)
+        }
+        RecordKind::Open if payload == 0 => Some((Call::Open, 1)),
+        RecordKind::Close if payload == 0 => Some((Call::Close, 1)),
+        RecordKind::Open | RecordKind::Close => None,
+        RecordKind::Ask => read_ask(TransEqAllowed::try_from(payload).ok()?, rest),
     }
 }

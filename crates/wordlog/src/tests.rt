@@ -1,7 +1,7 @@
 // Logs that are refused, each at its place, and logs that are read and written again.
 use crate::bytes::words_of;
 use crate::call::Call;
-use crate::reader::Reader;
+use crate::reader::{Log, Reader};
 use crate::writer::write_call;
 use model::error::{Cause, Fault};
 use model::items::EqualityExpl;
@@ -10,7 +10,7 @@ use std::test::Fail;
 
 // The place at which a log is refused; None if it is read to its end.
 fn refused_at(words: &[u32], ragged: bool) -> Option<u32> {
-    let mut reader = Reader::new(words, ragged);
+    let mut reader = Reader::new(Log { words, ragged });
     for _ in 0..=words.len() {
         match reader.next_call() {
             Ok(Some(_)) => {}
@@ -90,7 +90,10 @@ fn bad_words(rt: HostRuntime) {
 
 // Writes each call of a log at its own place, and answers where that ended.
 fn rewrite(words: &[u32], out: &mut [u32]) -> u32 {
-    let mut reader = Reader::new(words, false);
+    let mut reader = Reader::new(Log {
+        words,
+        ragged: false,
+    });
     for _ in 0..words.len() {
         let at = reader.place() as usize;
         let Ok(Some(call)) = reader.next_call() else {
@@ -146,7 +149,10 @@ fn small_log(rt: HostRuntime) {
 #[test]
 fn call_fields(rt: HostRuntime) -> Result<(), Fail> {
     let words = [0x1000_0001, 0x2200_0004, 1, 2, 3, 4, 0x5000_0002, 3, 4];
-    let mut reader = Reader::new(&words, false);
+    let mut reader = Reader::new(Log {
+        words: &words,
+        ragged: false,
+    });
     let Ok(Some(Call::Enode { owner: 1 })) = reader.next_call() else {
         return Err(Fail::new("enode"));
     };

@@ -1,12 +1,14 @@
 // Writes the calls of a log.
 ghost use Rattle.std.specs.Prelude.{◌≡◌, ◌^◌, ◌<◌, ◌∷◌, ◌++◌, length};
-ghost use Rattle.model.specs.Format.{AllPlain, given_head};
-ghost use Rattle.wordlog.specs.Calls.{call_of, call_as, given_of, congruence, permission as permission_of};
-ghost use Rattle.wordlog.specs.Writing.{Puts, Writes, ReadsBack};
+ghost use Rattle.model.specs.Format.{AllPlain, head};
+ghost use Rattle.wordlog.specs.Calls.{call_of, call_as, given_of, congruence};
+ghost use Rattle.wordlog.specs.Kinds.{record_number, given_number};
+ghost use Rattle.wordlog.specs.Writing.{Puts, PutsGiven, Writes, ReadsBack};
 
-use crate::call::{Call, TransEqAllowed};
+use crate::call::Call;
+use crate::kind::{GivenKind, RecordKind};
 use crate::reader::read_call;
-use crate::word::{COUNTS, PAYLOADS, all_plain};
+use crate::word::{COUNTS, PAYLOADS, all_plain, is_plain};
 use model::items::{ArgPairs, EqualityExpl};
 
 // Writes a head and the plain words of two slices behind it.
@@ -24,19 +26,23 @@ fn write_record(head: u32, first: &[u32], second: &[u32], out: &mut [u32]) -> Op
     Some(end)
 }
 
-// The head of a given of that kind with that many words behind it.
-fn given_head(kind: u32, count: u32) -> u32
-    requires { (kind < 16) × (count < 2 ^ 24) }
-    ensures { result ≡ given_head kind count }
+fn head(kind: RecordKind, payload: u32) -> u32
+    requires { payload < 2 ^ 28 }
+    ensures { result ≡ head (record_number kind) payload }
 {
-    2 * PAYLOADS + kind * COUNTS + count
+    kind as u32 * PAYLOADS + payload
 }
 
-// A question's two permissions as its payload.
-fn permission(allowed: TransEqAllowed) -> u32
-    ensures { result ≡ permission_of allowed }
+// Writes a given of that kind: a head that counts the words of both slices, and the words.
+fn write_words(kind: GivenKind, first: &[u32], second: &[u32], out: &mut [u32]) -> Option<usize>
+    ensures { PutsGiven (given_number kind) (first.now ++ second.now) out.old result out.new }
 {
-    u32::from(allowed.can_mismatch_initial) + 2 * u32::from(allowed.can_mismatch_congr)
+    let count = first.len() + second.len();
+    if count >= COUNTS as usize {
+        return None;
+    }
+    let payload = kind as u32 * COUNTS + count as u32;
+    write_record(head(RecordKind::Given, payload), first, second, out)
 }
 
 // An odd last word is in no pair, and is not written.
@@ -44,13 +50,13 @@ fn write_congruence(from: u32, to: u32, arguments: ArgPairs<'_>, out: &mut [u32]
     ensures { Writes (congruence from to arguments.entry.words.now) out.old result out.new }
 {
     let count = arguments.words.len() / 2 * 2;
-    if count == 0 || count >= (COUNTS - 2) as usize {
+    if count == 0 {
         return None;
     }
-    write_record(
-        given_head(2, 2 + count as u32),
+    write_words(
+        GivenKind::Congruence,
         &[from, to],
-        &arguments.words[0..count],
+        &arguments.words[..count],
         out,
     )
 }
@@ -59,27 +65,18 @@ fn write_given(expl: &EqualityExpl<'_>, out: &mut [u32]) -> Option<usize>
     ensures { Writes (given_of expl.now) out.old result out.new }
 {
     match *expl {
-        EqualityExpl::Root { id } => write_record(given_head(0, 1), &[id], &[], out),
-        EqualityExpl::Literal { from, eq, to } => write_record(
-            given_head(1, 3),
-            &[from, to, eq],
-            &[],
-            out,
-        ),
+        EqualityExpl::Root { id } => write_words(GivenKind::Root, &[id], &[], out),
+        EqualityExpl::Literal { from, eq, to } => {
+            write_words(GivenKind::Literal, &[from, to, eq], &[], out)
+        }
         EqualityExpl::Congruence { from, arg_eqs, to } => write_congruence(from, to, arg_eqs, out),
-        EqualityExpl::Theory { from, theory, to } => write_record(
-            given_head(3, 3),
-            &[from, to, theory],
-            &[],
-            out,
-        ),
-        EqualityExpl::Axiom { from, to } => write_record(given_head(4, 2), &[from, to], &[], out),
-        EqualityExpl::Unknown { kind, from, to } => write_record(
-            given_head(5, 3),
-            &[from, to, kind],
-            &[],
-            out,
-        ),
+        EqualityExpl::Theory { from, theory, to } => {
+            write_words(GivenKind::Theory, &[from, to, theory], &[], out)
+        }
+        EqualityExpl::Axiom { from, to } => write_words(GivenKind::Axiom, &[from, to], &[], out),
+        EqualityExpl::Unknown { kind, from, to } => {
+            write_words(GivenKind::Unknown, &[from, to, kind], &[], out)
+        }
     }
 }
 
@@ -88,21 +85,14 @@ pub fn write_call(call: &Call<'_>, out: &mut [u32]) -> Option<usize>
     ensures { Writes (call_of call.now) out.old result out.new }
 {
     match *call {
-        Call::Enode { owner } => {
-            if owner >= PAYLOADS {
-                return None;
-            }
-            write_record(PAYLOADS + owner, &[], &[], out)
-        }
+        Call::Enode { owner } if !is_plain(owner) => None,
+        Call::Enode { owner } => write_record(head(RecordKind::Enode, owner), &[], &[], out),
         Call::Given { expl } => write_given(&expl, out),
-        Call::Open => write_record(3 * PAYLOADS, &[], &[], out),
-        Call::Close => write_record(4 * PAYLOADS, &[], &[], out),
-        Call::Ask { allowed, from, to } => write_record(
-            5 * PAYLOADS + permission(allowed),
-            &[from, to],
-            &[],
-            out,
-        ),
+        Call::Open => write_record(head(RecordKind::Open, 0), &[], &[], out),
+        Call::Close => write_record(head(RecordKind::Close, 0), &[], &[], out),
+        Call::Ask { allowed, from, to } => {
+            write_record(head(RecordKind::Ask, allowed.into()), &[from, to], &[], out)
+        }
     }
 }
 
