@@ -17,7 +17,7 @@ use model::error::Fault;
 use model::items::Pair;
 use std::alloc::{AllocError, Global};
 use wordlog::call::Call;
-use wordlog::reader::Reader;
+use wordlog::reader::{Log, Reader};
 
 const NO_ENODE: ENode = ENode {
     owner: 0,
@@ -75,7 +75,7 @@ fn run_calls<R: FrameRule>(
     ensures { OnOk result (Adds R.FrameRule.limit words.now ragged (case_of (R.FrameRule.means graph.old.rule) graph.old.records) (case_of (R.FrameRule.means graph.new.rule) graph.new.records) (string_bytes out.old) (string_bytes out.new)) }
 {
     let mut scratch = Scratch::new();
-    let mut reader = Reader::new(words, ragged);
+    let mut reader = Reader::new(Log { words, ragged });
     'calls: loop {
         let place = reader.place();
         let next = match reader.next_call() {

@@ -15,9 +15,9 @@ pub calls-smaller : goal.calls-smaller
 calls-smaller g c =
     let r = c.calls.reader in
     let s = c.next_call.new.self in
-    let n = next r.words.now r.ragged r.at in
+    let n = next r.log.words.now r.log.ragged r.at in
     let read = read_as c.in-Ok.next (Some c.in-Some.call) s.at (moved r.at n) c.in-Some.is c.in-Ok.ensures.outcome in
-    let further = next_further r.words.now r.ragged r.at (call_of c.in-Some.call) s.at (moved_on r.at n (Some (call_of c.in-Some.call)) s.at read) in
+    let further = next_further r.log.words.now r.log.ragged r.at (call_of c.in-Some.call) s.at (moved_on r.at n (Some (call_of c.in-Some.call)) s.at read) in
     omega (arith, ap length c.in-Ok.ensures.words, s.within, further)
 
 pub calls-preserved : goal.calls-preserved
@@ -27,9 +27,9 @@ calls-preserved g c =
     let u = c.run_call.new.graph in
     let k = case_of (g.R.FrameRule.means t.rule) t.records in
     let s = c.next_call.new.self in
-    let read = read_as c.in-Ok.next (Some c.in-Some.call) s.at (moved r.at (next r.words.now r.ragged r.at)) c.in-Some.is c.in-Ok.ensures.outcome in
-    called g.R.FrameRule.limit c.args.words.now c.args.ragged _ _ k (string_bytes c.calls.out) r.words.now r.ragged r.at c.calls.invariant
-    (call_of c.in-Some.call) s.at (case_of (g.R.FrameRule.means u.rule) u.records) (string_bytes c.run_call.new.out) s.words.now s.ragged
+    let read = read_as c.in-Ok.next (Some c.in-Some.call) s.at (moved r.at (next r.log.words.now r.log.ragged r.at)) c.in-Some.is c.in-Ok.ensures.outcome in
+    called g.R.FrameRule.limit c.args.words.now c.args.ragged _ _ k (string_bytes c.calls.out) r.log.words.now r.log.ragged r.at c.calls.invariant
+    (call_of c.in-Some.call) s.at (case_of (g.R.FrameRule.means u.rule) u.records) (string_bytes c.run_call.new.out) s.log.words.now s.log.ragged
     c.in-Ok.ensures.words c.in-Ok.ensures.ragged read c.in_ok-run_call.ensures.case
     (c.in_ok-run_call.ensures.text ∙ ap (λ p. string_bytes c.calls.out ++ call_text g.R.FrameRule.limit p k (call_of c.in-Some.call)) c.place-place.ensures)
 
@@ -37,14 +37,14 @@ pub returns-in_default : goal.returns-in_default
 returns-in_default g c =
     let r = c.calls.reader in
     let s = c.next_call.new.self in
-    let read = read_as c.in-Ok.next None s.at (moved r.at (next r.words.now r.ragged r.at)) c.in_default.is c.in-Ok.ensures.outcome in
-    ended g.R.FrameRule.limit c.args.words.now c.args.ragged _ _ _ _ r.words.now r.ragged r.at c.calls.invariant s.at read
+    let read = read_as c.in-Ok.next None s.at (moved r.at (next r.log.words.now r.log.ragged r.at)) c.in_default.is c.in-Ok.ensures.outcome in
+    ended g.R.FrameRule.limit c.args.words.now c.args.ragged _ _ _ _ r.log.words.now r.log.ragged r.at c.calls.invariant s.at read
 
 pub returns-in-Err : goal.returns-in-Err
 returns-in-Err g c =
     let r = c.calls.reader in
     let f = c.in-Err.fault in
     IfOk-weaker c.refused_line.result _ _
-    (λ x e. unreadable g.R.FrameRule.limit c.args.words.now c.args.ragged _ _ _ (string_bytes c.calls.out) r.words.now r.ragged r.at c.calls.invariant (refusal_of f) c.next_call.new.self.at _ c.in-Err.ensures.outcome
+    (λ x e. unreadable g.R.FrameRule.limit c.args.words.now c.args.ragged _ _ _ (string_bytes c.calls.out) r.log.words.now r.log.ragged r.at c.calls.invariant (refusal_of f) c.next_call.new.self.at _ c.in-Err.ensures.outcome
     (e ∙ (λ i. string_bytes c.calls.out ++ refused_text (c.number.ensures i) (c.place-place.ensures i))))
     c.refused_line.ensures

@@ -7,7 +7,7 @@ use Rattle.listing.proofs.run.run_calls.Given as goal
 abbrev pub invariant-calls : goal.invariant-calls
 invariant-calls g l =
     SoFar g.R.FrameRule.limit l.words l.ragged (case_of (g.R.FrameRule.means l.initial.graph.rule) l.initial.graph.records) (case_of (g.R.FrameRule.means l.graph.rule) l.graph.records)
-    (string_bytes l.initial.out) (string_bytes l.out) l.reader.words.now l.reader.ragged l.reader.at
+    (string_bytes l.initial.out) (string_bytes l.out) l.reader.log.words.now l.reader.log.ragged l.reader.at
 
 abbrev pub decreases-calls : goal.decreases-calls
-decreases-calls g l = length l.reader.words.now - l.reader.at
+decreases-calls g l = length l.reader.log.words.now - l.reader.at
