@@ -11,7 +11,7 @@ pub struct TransEqAllowed {
     pub can_mismatch_congr: bool,
 }
 
-#[derive(Clone, Copy)]
+#[derive(Clone, Copy, Debug, PartialEq, Eq)]
 pub enum Call<'a> {
     Enode {
         owner: u32,

@@ -1,12 +1,11 @@
 // Logs that are refused, each at its place, and logs that are read and written again.
 use crate::bytes::words_of;
-use crate::call::Call;
+use crate::call::{Call, TransEqAllowed};
 use crate::reader::{Log, Reader};
 use crate::writer::write_call;
 use model::error::{Cause, Fault};
-use model::items::EqualityExpl;
+use model::items::{ArgPairs, EqualityExpl};
 use std::process::Abort;
-use std::test::Fail;
 
 // The place at which a log is refused; None if it is read to its end.
 fn refused_at(words: &[u32], ragged: bool) -> Option<u32> {
@@ -147,42 +146,27 @@ fn small_log(rt: HostRuntime) {
 }
 
 #[test]
-fn call_fields(rt: HostRuntime) -> Result<(), Fail> {
+fn call_fields(rt: HostRuntime) {
     let words = [0x1000_0001, 0x2200_0004, 1, 2, 3, 4, 0x5000_0002, 3, 4];
     let mut reader = Reader::new(Log {
         words: &words,
         ragged: false,
     });
-    let Ok(Some(Call::Enode { owner: 1 })) = reader.next_call() else {
-        return Err(Fail::new("enode"));
+    let enode = Call::Enode { owner: 1 };
+    let congruence = EqualityExpl::Congruence {
+        from: 1,
+        arg_eqs: ArgPairs { words: &[3, 4] },
+        to: 2,
     };
-    let Ok(
-        Some(
-            Call::Given {
-                expl: EqualityExpl::Congruence {
-                    from: 1,
-                    arg_eqs,
-                    to: 2,
-                },
-            },
-        ),
-    ) = reader.next_call()
-    else {
-        return Err(Fail::new("congruence"));
+    let question = Call::Ask {
+        allowed: TransEqAllowed {
+            can_mismatch_initial: false,
+            can_mismatch_congr: true,
+        },
+        from: 3,
+        to: 4,
     };
-    assert!(rt; arg_eqs.words == [3, 4].as_slice());
-    let Ok(
-        Some(
-            Call::Ask {
-                allowed,
-                from: 3,
-                to: 4,
-            },
-        ),
-    ) = reader.next_call()
-    else {
-        return Err(Fail::new("question"));
-    };
-    assert!(rt; !allowed.can_mismatch_initial && allowed.can_mismatch_congr);
-    Ok(())
+    for call in [enode, Call::Given { expl: congruence }, question] {
+        assert_eq!(rt; reader.next_call().ok(), Some(Some(call)));
+    }
 }
