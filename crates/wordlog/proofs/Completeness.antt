@@ -1,15 +1,17 @@
 -- Each allowed call is read from its words.
-use Rattle.std.proofs.Common.{◌≡◌, ℕ, suc, ◌+◌, ◌^◌, ◌<◌, ◌≤◌, List, [], ◌∷◌, ◌++◌, length, Some, sym, refl, ap, ◌∙◌, arith}
+use Rattle.std.proofs.Common.{◌≡◌, ℕ, suc, ◌+◌, ◌^◌, ◌<◌, ◌≤◌, true, List, [], ◌∷◌, ◌++◌, length, take, Some, Option, sym, refl, ap, ◌∙◌, arith}
 use Rattle.std.proofs.lemmas.List.{take_at, length-append}
 use Rattle.std.proofs.lemmas.Bool.Decides.{nat_tests}
 use Rattle.model.specs.declared.items.Pair.{Pair}
 use Rattle.model.specs.Records.{Kind, Root, Axiom, Literal, Theory, Unknown, Congruence}
 use Rattle.model.specs.Format.{Call, enode, given, open_frame, close_frame, ask, pair_words, given_head, words, Plain, AllPlain, Allowed, GivenAllowed}
-use Rattle.wordlog.specs.Reading.{given_from, front, Complete}
+use Rattle.wordlog.specs.Reading.{all_plain, given_from, taking, given_front, front, Complete}
 use Rattle.wordlog.proofs.Plain.{plain_test}
 use Rattle.wordlog.proofs.PairWords.{pair_words_length, pairs_of_words}
 use Rattle.wordlog.proofs.Heads.{front_at, given_at}
-use Rattle.wordlog.proofs.Fronts.{given_reads}
+
+given_reads : (kind count : ℕ) (ws : List ℕ) (o : Option Call) → count ≤ length ws → true ≡ all_plain (take count ws) → o ≡ given_from kind (take count ws) → taking (count + 1) o ≡ given_front kind count ws
+given_reads kind count ws o l p e = grind (arith, nat_tests)
 
 -- a given whose plain words are read, behind a head that counts them
 given_front_at : (kind count : ℕ) (us rest : List ℕ) (c : Call) → kind < 16 → count < 2 ^ 24 → count ≡ length us → AllPlain us → Some c ≡ given_from kind us → front (given_head kind count ∷ us ++ rest) ≡ Some (c, suc (length us))
@@ -19,7 +21,7 @@ given_front_at kind count us rest c k l n p e =
     let plain = plain_test us p in
     let more : count + 1 ≡ suc (length us) = omega arith in
     given_at kind count (us ++ rest) k l
-    ∙ sym (given_reads kind count count (us ++ rest) (Some c) refl fits (cc) (cc))
+    ∙ sym (given_reads kind count (us ++ rest) (Some c) fits (cc) (cc))
     ∙ ap (λ m. Some (c, m)) more
 
 congruence_from_words : (a b : ℕ) (ps : List Pair) → 1 ≤ length ps → Some (given a b (Congruence ps)) ≡ given_from 2 (a ∷ b ∷ pair_words ps)

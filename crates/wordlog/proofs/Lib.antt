@@ -1,4 +1,3 @@
-pub mod Fronts
 pub mod Plain
 pub mod PairWords
 pub mod Heads
@@ -6,4 +5,4 @@ pub mod Accepted
 pub mod Completeness
 pub mod Records
 pub mod Words
-pub mod Unnamed
+pub mod Numbers

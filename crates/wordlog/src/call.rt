@@ -11,23 +11,6 @@ pub struct TransEqAllowed {
     pub can_mismatch_congr: bool,
 }
 
-#[derive(Clone, Copy, Debug, PartialEq, Eq)]
-pub enum Call<'a> {
-    Enode {
-        owner: u32,
-    },
-    Given {
-        expl: EqualityExpl<'a>,
-    },
-    Open,
-    Close,
-    Ask {
-        allowed: TransEqAllowed,
-        from: u32,
-        to: u32,
-    },
-}
-
 // A number to which a log gives no meaning.
 #[derive(Clone, Copy, Debug, PartialEq, Eq)]
 pub struct UnknownNumber(pub u32);
@@ -55,4 +38,21 @@ impl TryFrom<u32> for TransEqAllowed {
             can_mismatch_congr: payload / 2 == 1,
         })
     }
+}
+
+#[derive(Clone, Copy, Debug, PartialEq, Eq)]
+pub enum Call<'a> {
+    Enode {
+        owner: u32,
+    },
+    Given {
+        expl: EqualityExpl<'a>,
+    },
+    Open,
+    Close,
+    Ask {
+        allowed: TransEqAllowed,
+        from: u32,
+        to: u32,
+    },
 }

@@ -45,6 +45,7 @@ impl GivenKind {
     ];
 }
 
+// Two impls alike: one body for both needs a trait with each list and number, and is longer.
 impl TryFrom<u32> for RecordKind {
     type Error = UnknownNumber;
 

@@ -54,7 +54,7 @@ impl<'a> Log<'a> {
 }
 
 // Reads a log call by call, from the place of the next one.
-#[derive(Drop)]
+#[derive(Debug, Drop)]
 pub struct Reader<'a> {
     log: Log<'a>,
     at: usize,
@@ -87,6 +87,7 @@ impl<'a> Reader<'a> {
     }
 
     // The next call; None at the end of the log. A fault leaves the reader as it is.
+    // No Iterator: it would not end after a fault.
     pub fn next_call(&mut self) -> Result<Option<Call<'a>>, Fault>
         ensures outcome { (answer_as result, self.new.at) ≡ moved self.old.at (next self.old.log.words.now self.old.log.ragged self.old.at) }
         ensures words { self.new.log.words.now ≡ self.old.log.words.now }

@@ -45,20 +45,13 @@ fn given_of<'a>(kind: GivenKind, words: &'a [u32]) -> Option<EqualityExpl<'a>>
 fn read_ask<'a>(allowed: TransEqAllowed, rest: &'a [u32]) -> Option<(Call<'a>, usize)>
     ensures { front_as result ≡ ask_front (permission allowed) rest.now }
 {
-    let [from, to, ..] = rest else {
+    let &[from, to, ..] = rest else {
         return None;
     };
-    if !is_plain(*from) || !is_plain(*to) {
+    if !is_plain(from) || !is_plain(to) {
         return None;
     }
-    Some((
-        Call::Ask {
-            allowed,
-            from: *from,
-            to: *to,
-        },
-        3,
-    ))
+    Some((Call::Ask { allowed, from, to }, 3))
 }
 
 // The words that the head counts have to be there, and to be plain.

@@ -1,5 +1,5 @@
 -- A place more is filled by the four bytes at its place.
-use Rattle.std.proofs.Common.{◌≡◌, ◌/◌, ◌≤◌, ◌++◌, [], length, get_or, take, drop, set, refl, ap, ◌∙◌, arith}
+use Rattle.std.proofs.Common.{◌≡◌, ◌/◌, ◌++◌, [], length, get_or, take, drop, set, refl, ap, ◌∙◌, arith}
 use Rattle.std.proofs.lemmas.List.{length-take-le, get_or-take}
 use Rattle.std.specs.Simd.{first_chunks}
 use Rattle.wordlog.specs.Bytes.{word_from, words_in, fitting}

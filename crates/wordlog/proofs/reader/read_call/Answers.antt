@@ -1,15 +1,18 @@
 -- The words are a head and what stands behind it; the rest are laws of what is read.
-use Rattle.std.proofs.Common.{◌≡◌, ◌/◌, ◌%◌, ◌^◌, get_or, drop, None, sym, subst, ap, ◌∙◌, arith}
+use Rattle.std.proofs.Common.{◌≡◌, ℕ, ◌/◌, ◌%◌, ◌^◌, ◌<◌, List, [], ◌∷◌, length, get_or, drop, sym, refl, subst, ap, ◌∙◌, arith}
 use Rattle.std.proofs.lemmas.List.{take_rest}
 use Rattle.std.proofs.lemmas.Bool.Decides.{nat_tests}
 use Rattle.wordlog.specs.Calls.{front_as}
 use Rattle.wordlog.specs.Kinds.{record_number}
-use Rattle.wordlog.specs.Reading.{front, Accepts, Complete}
-use Rattle.wordlog.proofs.Fronts.{front_reads}
-use Rattle.wordlog.proofs.Unnamed.{named, no_record}
+use Rattle.wordlog.specs.Reading.{front, front_of, Accepts, Complete}
+use Rattle.wordlog.proofs.Numbers.{named, no_record}
 use Rattle.wordlog.proofs.Accepted.{front_accepted}
 use Rattle.wordlog.proofs.Completeness.{front_complete}
 use Rattle.wordlog.proofs.reader.read_call.Goals as goal
+
+front_reads : (ws : List ℕ) → 0 < length ws → front ws ≡ front_of (get_or ws 0 0 / 2 ^ 28) (get_or ws 0 0 % 2 ^ 28) (drop 1 ws)
+front_reads [] l = absurd (omega arith)
+front_reads (w ∷ ws) l = refl
 
 pub returns-in_err-kind : goal.returns-in_err-kind
 returns-in_err-kind c =

@@ -3,7 +3,7 @@ use Rattle.std.proofs.Common.{◌/◌, ◌%◌, ◌^◌, sym, ap, ◌∙◌}
 use Rattle.wordlog.specs.Calls.{front_as}
 use Rattle.wordlog.specs.Kinds.{record_number}
 use Rattle.wordlog.specs.Reading.{front_of}
-use Rattle.wordlog.proofs.Unnamed.{no_given}
+use Rattle.wordlog.proofs.Numbers.{no_given}
 use Rattle.wordlog.proofs.shapes.read_record.Goals as goal
 
 pub returns-in_err-kind-in-Given : goal.returns-in_err-kind-in-Given

@@ -1,6 +1,5 @@
 -- The words of the pairs are written behind the two ends.
-use Rattle.std.proofs.Common.{◌≡◌, ◌-◌, ◌*◌, ◌/◌, length, take, sym, ap, ◌∙◌, arith}
-use native.Mathlib.Nat.{sub-zero}
+use Rattle.std.proofs.Common.{◌≡◌, ◌*◌, ◌/◌, length, take, arith}
 use Rattle.std.proofs.lemmas.List.{length-take-le}
 use Rattle.wordlog.proofs.PairWords.{words_in_pairs}
 use Rattle.wordlog.proofs.Records.{congruence_writes}
