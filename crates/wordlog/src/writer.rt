@@ -26,6 +26,7 @@ fn write_record(head: u32, first: &[u32], second: &[u32], out: &mut [u32]) -> Op
     Some(end)
 }
 
+// The head of a record of that kind.
 fn head(kind: RecordKind, payload: u32) -> u32
     requires { payload < 2 ^ 28 }
     ensures { result ≡ head (record_number kind) payload }
