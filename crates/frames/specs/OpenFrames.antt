@@ -1,7 +1,8 @@
 -- Which frames are open, and that every open frame counts.
-use Rattle.std.specs.Prelude.{◌≡◌, ℕ, zero, suc, ◌-◌, ◌≤◌, Bool, true, false, cond, not, ◌&&◌, ◌||◌, List, [], ◌∷◌, ◌++◌, length, take, Result, ◌==◌, nat_lt, slice_index_or, slice_set, refl}
-use Rattle.std.proofs.Common.{ap, inl, inr, arith}
-use Rattle.std.proofs.lemmas.Bool.{cases_Bool}
+use Rattle.std.specs.Prelude.{◌≡◌, ℕ, zero, suc, ◌+◌, ◌-◌, ◌<◌, ◌≤◌, Bool, true, false, cond, not, ◌&&◌, ◌||◌, List, [], ◌∷◌, ◌++◌, length, take, drop, Result, ◌==◌, ◌≢◌, nat_lt, slice_index_or, slice_set, refl}
+use Rattle.std.proofs.Common.{sym, ap, inl, inr, arith}
+use Rattle.std.proofs.lemmas.Bool.{cases_Bool, eq-eqb, ne_eqb}
+use Rattle.std.proofs.lemmas.List.{at_drop_more}
 use Rattle.std.proofs.lemmas.List.Recursion.{or_push}
 use Rattle.std.proofs.lemmas.Bool.Decides.{nat_tests}
 use Rattle.std.proofs.Math.Bool.{or-false}
@@ -26,6 +27,16 @@ open_take f (suc n) (x ∷ xs) e = let ih : is_open f (take n xs) ≡ true → i
 
 pub open_counted : (f : ℕ) (os : List Frame) → is_open f (slice_set os (length os - 1) (counted (current os))) ≡ is_open f os
 open_counted f os = open_set f os (length os - 1) (counted (current os)) refl
+
+-- a look through a list, at one place of it
+open_from : (f : ℕ) (os : List Frame) (i : ℕ) → i < length os → is_open f (drop i os) ≡ (f == (slice_index_or os i no_frame).number || is_open f (drop (i + 1) os))
+open_from f os i h = at_drop_more (is_open f) os i no_frame h
+
+pub open_here : (f : ℕ) (os : List Frame) (i : ℕ) → i < length os → (slice_index_or os i no_frame).number ≡ f → is_open f (drop i os) ≡ true
+open_here f os i h e = rw (open_from f os i h, eq-eqb f _ (sym e))
+
+pub open_later : (f : ℕ) (os : List Frame) (i : ℕ) → i < length os → ((slice_index_or os i no_frame).number ≢ f) → is_open f (drop i os) ≡ is_open f (drop (i + 1) os)
+open_later f os i h ne = rw (open_from f os i h, ne_eqb f _ (λ e. ne (sym e)))
 
 -- a frame keeps its number, counted up or full
 pub counted_up_number : (o : Frame) → (counted_up o).1.number ≡ o.number
