@@ -36,10 +36,10 @@ known_more : (gs : List M.Given) (n m : ℕ) → n ≤ m → EndsKnown gs n → 
 known_more gs n m le known k lt = let h = known k lt in (omega (arith, h.0), omega (arith, h.1))
 
 -- the tables with other enodes
-abbrev pub with_enodes : Records → Table ENode → Records
+abbrev pub with_enodes : Records → Table ENode 65536 → Records
 with_enodes t u = record { enodes = u; givens = t.givens; arguments = t.arguments }
 
-module _ (t : Records) (u : Table ENode) (row : ENode) (filed : listed u ≡ listed t.enodes ++ (row ∷ [])) where
+module _ (t : Records) (u : Table ENode 65536) (row : ENode) (filed : listed u ≡ listed t.enodes ++ (row ∷ [])) where
   pub enode_ends : EndsFiled t → EndsFiled (with_enodes t u)
   enode_ends = known_more (given_list t) (size t) (length (listed u)) (rw filed (omega (arith, length_push (listed t.enodes) row)))
 

@@ -8,7 +8,7 @@ use Rattle.egraph.specs.declared.equality.Given.{Given as Row}
 use Rattle.egraph.specs.declared.records.Records.{Records}
 use Rattle.egraph.specs.Table.{listed}
 use Rattle.egraph.specs.Records.{given_of, no_row, no_enode, under, past}
-use Rattle.egraph.specs.View.{given_list, size, WithinLimits, InLists}
+use Rattle.egraph.specs.View.{given_list, size, InLists}
 
 past_same : (o p : Option ℕ) → past o ≡ past p → o ≡ p
 past_same None None h = refl
@@ -34,12 +34,12 @@ module _ (gs : List Given) (e : ℕ) where
   pub along_none : (next : Option ℕ) (bound : ℕ) → Along next bound → next ≡ None → (j : ℕ) → j < bound → under e (given_at gs j) ≡ false
   along_none next bound a q = newest_none (under e) gs bound (sym (past_same _ _ a.is) ∙ q)
 
-module _ (t : Records) (limits : WithinLimits t) where
+module _ (t : Records) where
   abbrev pub row : ℕ → Row
   row n = get_or t.givens.rows.now n no_row
 
   pub given_count : length (given_list t) ≡ t.givens.len
-  given_count = length-map (listed t.givens) (given_of (listed t.arguments)) ∙ length-take-le t.givens.len t.givens.rows.now limits.1.0
+  given_count = length-map (listed t.givens) (given_of (listed t.arguments)) ∙ length-take-le t.givens.len t.givens.rows.now t.givens.in_rows
 
   -- a given by its row
   pub given_row : (n : ℕ) → n < length (given_list t) → given_at (given_list t) n ≡ given_of (listed t.arguments) (row n)
@@ -51,7 +51,7 @@ module _ (t : Records) (limits : WithinLimits t) where
   module _ (lists : InLists t) (e : ℕ) where
     pub along_start : e < size t → Along (given_list t) e (get_or t.enodes.rows.now e no_enode).newest (length (given_list t))
     along_start lt =
-        let low : e < t.enodes.len = omega (arith, length-take-le t.enodes.len t.enodes.rows.now limits.0.0) in
+        let low : e < t.enodes.len = omega (arith, length-take-le t.enodes.len t.enodes.rows.now t.enodes.in_rows) in
         record { low = omega arith; is = ap (λ x. past x.newest) (sym (get_or-take t.enodes.len t.enodes.rows.now e no_enode low)) ∙ lists.1 e lt }
 
     module _ (next : Option ℕ) (bound n : ℕ) (a : Along (given_list t) e next bound) (q : next ≡ Some n) where
@@ -62,7 +62,7 @@ module _ (t : Records) (limits : WithinLimits t) where
       found_filed = omega (arith, found.below, a.low)
 
       pub found_in_table : n < length t.givens.rows.now
-      found_in_table = omega (arith, found_filed, given_count, limits.1.0)
+      found_in_table = omega (arith, found_filed, given_count, t.givens.in_rows)
 
       older_is : past (row n).older ≡ past (newest (under e) (given_list t) n)
       older_is =

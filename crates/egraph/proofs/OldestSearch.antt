@@ -7,7 +7,7 @@ use Rattle.model.specs.Logging.{between}
 use Rattle.model.proofs.Links.{Newest}
 use Rattle.egraph.specs.declared.records.Records.{Records}
 use Rattle.egraph.specs.Records.{no_enode, under}
-use Rattle.egraph.specs.View.{given_list, size, WithinLimits, InLists}
+use Rattle.egraph.specs.View.{given_list, size, InLists}
 use Rattle.egraph.proofs.GivenList.{Along, along_none, along_start, along_older, found, found_filed, given_row, row}
 
 abbrev or_else : Option ℕ → Option ℕ → Option ℕ
@@ -70,24 +70,24 @@ module _ (from to : ℕ) (gs : List Given) where
       ∙ ap (λ b. or_else (oldest_from 0 (between from to) (take n gs)) (cond (b && eqb (given_at gs n).to to) (Some (0 + n)) None)) f.passes
       ∙ ap (λ m. or_else (oldest_from 0 (between from to) (take n gs)) (cond (eqb (given_at gs n).to to) (Some m) None)) number
 
-module _ (t : Records) (limits : WithinLimits t) (lists : InLists t) (from to : ℕ) where
+module _ (t : Records) (lists : InLists t) (from to : ℕ) where
   pub sought_start : from < size t → Sought from to (given_list t) (get_or t.enodes.rows.now from no_enode).newest None
   sought_start lt = record {
     bound = length (given_list t);
-    along = along_start t limits lists from lt;
+    along = along_start t lists from lt;
     left = ap (oldest_from 0 (between from to)) (sym (take_all (length (given_list t)) (given_list t) (omega arith))) ∙ sym (or_none (between from to) (oldest_from 0 (between from to) (take (length (given_list t)) (given_list t))));
   }
 
-  pub sought_older : (next oldest : Option ℕ) (s : Sought from to (given_list t) next oldest) (n : ℕ) → next ≡ Some n → Sought from to (given_list t) (row t limits n).older (cond (eqb (row t limits n).to to) (Some n) oldest)
+  pub sought_older : (next oldest : Option ℕ) (s : Sought from to (given_list t) next oldest) (n : ℕ) → next ≡ Some n → Sought from to (given_list t) (row t n).older (cond (eqb (row t n).to to) (Some n) oldest)
   sought_older next oldest s n q =
-      let filed = found_filed t limits lists from next s.bound n s.along q in
-      let test : eqb (given_at (given_list t) n).to to ≡ eqb (row t limits n).to to = ap (λ g. eqb g.to to) (given_row t limits n filed) in
+      let filed = found_filed t lists from next s.bound n s.along q in
+      let test : eqb (given_at (given_list t) n).to to ≡ eqb (row t n).to to = ap (λ g. eqb g.to to) (given_row t n filed) in
       record {
         bound = n;
-        along = along_older t limits lists from next s.bound n s.along q;
+        along = along_older t lists from next s.bound n s.along q;
         left =
             s.left
-            ∙ ap (λ o. or_else o oldest) (at_found from to (given_list t) s.bound n s.along.low (found t limits lists from next s.bound n s.along q))
+            ∙ ap (λ o. or_else o oldest) (at_found from to (given_list t) s.bound n s.along.low (found t lists from next s.bound n s.along q))
             ∙ or_keeps (oldest_from 0 (between from to) (take n (given_list t))) oldest n (eqb (given_at (given_list t) n).to to)
             ∙ ap (λ b. or_else (oldest_from 0 (between from to) (take n (given_list t))) (cond b (Some n) oldest)) test;
       }

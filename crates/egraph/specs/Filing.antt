@@ -11,7 +11,6 @@ use Rattle.egraph.specs.declared.equality.Kind.TheVariants.{Root, Literal, Congr
 use Rattle.egraph.specs.declared.records.Records.{Records}
 use Rattle.egraph.specs.Table.{listed, places}
 use Rattle.egraph.specs.Records.{no_enode}
-use Rattle.egraph.specs.View.{WithinLimits}
 
 -- the kind as it is filed, its argument pairs from a place on
 abbrev pub row_kind : ℕ → EqualityExpl → Kind
@@ -40,11 +39,9 @@ pub record GivenFiled (t : Records) (e : EqualityExpl) (frame : ℕ) (u : Record
   pub enode_places : places u.enodes ≡ places t.enodes
   pub given_places : places u.givens ≡ places t.givens
   pub argument_places : places u.arguments ≡ places t.arguments
-  pub limits : WithinLimits u
 
 -- there is room for the given
 pub record GivenFits (t : Records) (e : EqualityExpl) : Type 0 where
-  pub limits : WithinLimits t
   pub known : from_of e < length (listed t.enodes)
   pub given_room : length (listed t.givens) + 1 ≤ min 65536 (places t.givens)
   pub argument_room : length (listed t.arguments) + length (args_of (kind_of e)) ≤ min 131072 (places t.arguments)

@@ -10,7 +10,7 @@ use Rattle.model.specs.Refusals.{full}
 use Rattle.model.specs.Checks.{Check, require, and_then}
 use Rattle.model.specs.declared.error.TableName.TheVariants.{Givens, Arguments}
 use Rattle.egraph.specs.declared.records.Records.{Records}
-use Rattle.egraph.specs.Table.{listed, places, Fits}
+use Rattle.egraph.specs.Table.{listed, places}
 use Rattle.egraph.specs.Records.{records_of, givens_of, Listed, Headed, Ranged}
 
 abbrev pub given_list : Records → List M.Given
@@ -34,10 +34,6 @@ case_of m t = record {
   frames = m;
   records = records_in t;
 }
-
--- the tables are within their limits
-abbrev pub WithinLimits : Records → Type 0
-WithinLimits t = Fits 65536 t.enodes × Fits 65536 t.givens × Fits 131072 t.arguments
 
 abbrev pub ArgumentsFiled : Records → Type 0
 ArgumentsFiled t = Ranged (length (listed t.arguments)) (listed t.givens) × (arg_count (given_list t) ≡ length (listed t.arguments))

@@ -58,10 +58,10 @@ impl<'a, R: FrameRule> EGraph<'a, R> {
     fn check_room(&self, arguments: usize) -> Result<(), Fault>
         ensures { told result ≡ room_checks self.now.records arguments }
     {
-        if !self.records.givens.has_room(65536, 1) {
+        if !self.records.givens.has_room(1) {
             return Err(Fault::new(Cause::Full(TableName::Givens)));
         }
-        if !self.records.arguments.has_room(131072, arguments) {
+        if !self.records.arguments.has_room(arguments) {
             return Err(Fault::new(Cause::Full(TableName::Arguments)));
         }
         Ok(())

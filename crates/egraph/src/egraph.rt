@@ -1,7 +1,7 @@
 // The records of a case in tables that the caller lends, with the frame rule beside them.
 ghost use Rattle.std.specs.Prelude.{◌≡◌, length};
 ghost use Rattle.model.specs.Logging.{empty_case};
-ghost use Rattle.egraph.specs.View.{case_of, WithinLimits, ArgumentsFiled, EndsFiled, InLists};
+ghost use Rattle.egraph.specs.View.{case_of, ArgumentsFiled, EndsFiled, InLists};
 
 use crate::enode::ENode;
 use crate::equality::Given;
@@ -14,7 +14,6 @@ use model::items::Pair;
 pub struct EGraph<'a, R: FrameRule> {
     pub(crate) records: Records<'a>,
     pub(crate) rule: R,
-    ghost within_limits: { WithinLimits records },
     ghost arguments_filed: { ArgumentsFiled records },
     ghost ends_filed: { EndsFiled records },
     ghost in_lists: { InLists records },

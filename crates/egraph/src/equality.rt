@@ -1,8 +1,9 @@
 // A given's record. The givens logged under one enode form a list, newest first.
 
 // Where a given came from. A congruence has `len` argument pairs from the place `start` on.
-#[derive(Clone, Copy)]
+#[derive(Clone, Copy, Default, PartialEq, Eq, Debug)]
 pub enum Kind {
+    #[default]
     Root,
     Literal(u32),
     Congruence { start: u32, len: u32 },
@@ -11,7 +12,7 @@ pub enum Kind {
     Unknown(u32),
 }
 
-#[derive(Clone, Copy)]
+#[derive(Clone, Copy, Default, PartialEq, Eq, Debug)]
 pub struct Given {
     pub from: u32,
     pub to: u32,

@@ -1,19 +1,19 @@
 // Filing a given that was checked: its argument pairs, its record, and its place as the newest under its first end.
-ghost use Rattle.std.specs.Prelude.{◌≡◌, ◌+◌, ◌<◌, ◌≤◌, ◌++◌, length};
+ghost use Rattle.std.specs.Prelude.{◌≡◌, ◌+◌, ◌<◌, ◌≤◌, min, ◌++◌, length};
 ghost use Rattle.model.specs.Explanations.{pairs_of};
 ghost use Rattle.model.specs.Records.{args_of};
 ghost use Rattle.model.specs.Explanations.{kind_of};
 ghost use Rattle.egraph.specs.Table.{listed, places};
-ghost use Rattle.egraph.specs.Filing.{GivenFiled, GivenFits, row_kind, with_newest};
+ghost use Rattle.egraph.specs.Filing.{GivenFiled, GivenFits, row_kind};
 
 use crate::enode::ENode;
 use crate::equality::{Given, Kind};
-use crate::records::Records;
+use crate::records::{ARGUMENTS, Records};
 use crate::table::Table;
 use model::items::{ArgPairs, EqualityExpl, Pair};
 
-fn push_pairs(table: &mut Table<'_, Pair>, pairs: ArgPairs<'_>)
-    requires { table.old.len + length (pairs_of pairs.words.now) ≤ places table.old }
+fn push_pairs(table: &mut Table<'_, Pair, ARGUMENTS>, pairs: ArgPairs<'_>)
+    requires { table.old.len + length (pairs_of pairs.words.now) ≤ min 131072 (places table.old) }
     ensures len { table.new.len ≡ table.old.len + length (pairs_of pairs.entry.words.now) }
     ensures places { places table.new ≡ places table.old }
     ensures listed { listed table.new ≡ listed table.old ++ pairs_of pairs.entry.words.now }
@@ -43,17 +43,6 @@ fn kind_at(start: u32, expl: EqualityExpl<'_>) -> Kind
     }
 }
 
-// The enode's record, with that given as the newest under it.
-fn headed(enode: ENode, number: u32) -> ENode
-    ensures { result ≡ with_newest enode number }
-{
-    ENode {
-        owner: enode.owner,
-        frame: enode.frame,
-        newest: Some(number),
-    }
-}
-
 impl Records<'_> {
     // Files the given, and answers its number.
     pub(crate) fn file_given(&mut self, expl: EqualityExpl<'_>, frame: u32) -> u32
@@ -73,7 +62,13 @@ impl Records<'_> {
             older: enode.newest,
         });
         push_pairs(&mut self.arguments, expl.arg_eqs());
-        self.enodes.put(under, headed(enode, number));
+        self.enodes.put(
+            under,
+            ENode {
+                newest: Some(number),
+                ..enode
+            },
+        );
         number
     }
 }

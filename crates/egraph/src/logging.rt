@@ -17,7 +17,7 @@ impl<'a, R: FrameRule> EGraph<'a, R> {
         ensures outcome { (told result, case_of (R.FrameRule.means self.new.rule) self.new.records) ≡ new_enode owner (case_of (R.FrameRule.means self.old.rule) self.old.records) }
         ensures kept { OnErr result (Unchanged self.old.records self.new.records × (self.new.rule ≡ self.old.rule)) }
     {
-        if !self.records.enodes.has_room(65536, 1) {
+        if !self.records.enodes.has_room(1) {
             return Err(Fault::new(Cause::Full(TableName::Enodes)));
         }
         let place = self.records.enodes.len as u32;

@@ -44,6 +44,6 @@ impl<'a, R: FrameRule> EGraph<'a, R> {
     pub fn given_count(&self) -> usize
         ensures { result ≡ length (given_list self.now.records) }
     {
-        self.records.givens_filed()
+        self.records.givens.len
     }
 }

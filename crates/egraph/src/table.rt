@@ -1,33 +1,36 @@
 // A table that the caller lends, and how many of its records are on file.
 ghost use Rattle.std.specs.Prelude.{◌≡◌, ◌+◌, ◌<◌, ◌≤◌, min, [], ◌∷◌, ◌++◌, length, nat_le, slice_set};
-ghost use Rattle.egraph.specs.Table.{listed, places, Fits};
 
+// No more than `LIMIT` records go in, however long the rows are.
 #[derive(Drop)]
-pub struct Table<'a, T> {
+pub struct Table<'a, T, const LIMIT: usize> {
     pub rows: &'a mut [T],
     pub len: usize,
+    ghost in_rows: { len ≤ length rows.now },
+    ghost in_limit: { len ≤ LIMIT },
 }
 
-impl<'a, T: Copy> Table<'a, T> {
+impl<'a, T: Copy, const LIMIT: usize> Table<'a, T, LIMIT> {
+    ghost use Rattle.egraph.specs.Table.{listed, places};
+
     // Nothing is on file, whatever the rows hold.
-    pub(crate) fn empty(rows: &'a mut [T]) -> Table<'a, T>
+    pub(crate) fn empty(rows: &'a mut [T]) -> Table<'a, T, LIMIT>
         ensures len { result.len ≡ 0 }
         ensures rows { result.rows.now ≡ rows.old }
     {
         Table { rows, len: 0 }
     }
 
-    // Whether that many records more go in, where there may be `limit` at the most.
-    pub(crate) fn has_room(&self, limit: usize, more: usize) -> bool
-        requires { Fits limit self.now }
-        ensures { result ≡ nat_le (length (listed self.now) + more) (min limit (places self.now)) }
+    // Whether that many records more go in.
+    pub(crate) fn has_room(&self, more: usize) -> bool
+        ensures { result ≡ nat_le (length (listed self.now) + more) (min LIMIT (places self.now)) }
     {
-        more <= limit - self.len && more <= self.rows.len() - self.len
+        more <= LIMIT - self.len && more <= self.rows.len() - self.len
     }
 
     // Another record in the place of one on file.
     pub(crate) fn put(&mut self, i: usize, row: T)
-        requires { (i < self.old.len) × (self.old.len ≤ places self.old) }
+        requires { i < self.old.len }
         ensures len { self.new.len ≡ self.old.len }
         ensures places { places self.new ≡ places self.old }
         ensures listed { listed self.new ≡ slice_set (listed self.old) i row }
@@ -37,7 +40,7 @@ impl<'a, T: Copy> Table<'a, T> {
 
     // One record more, at the end.
     pub(crate) fn push(&mut self, row: T)
-        requires { self.old.len < places self.old }
+        requires { self.old.len + 1 ≤ min LIMIT (places self.old) }
         ensures len { self.new.len ≡ self.old.len + 1 }
         ensures places { places self.new ≡ places self.old }
         ensures listed { listed self.new ≡ listed self.old ++ (row ∷ []) }

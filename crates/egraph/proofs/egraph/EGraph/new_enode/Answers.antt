@@ -1,4 +1,4 @@
-use Rattle.std.proofs.Common.{◌+◌, ◌≤◌, min, length, sym, refl, ◌∙◌, arith}
+use Rattle.std.proofs.Common.{◌+◌, ◌≤◌, min, length, sym, refl, ◌∙◌}
 use Rattle.std.proofs.lemmas.List.{length-take-le}
 use Rattle.std.proofs.lemmas.Bool.{leb-true}
 use Rattle.egraph.specs.Table.{listed, places}
@@ -17,9 +17,8 @@ invariant_of-self g c =
     let t = s.records in
     let filed = c.push.ensures.listed in
     let room : length (listed t.enodes) + 1 ≤ min 65536 (places t.enodes) = leb-true _ _ (sym c.if-not-has_room.ensures) in
-    let long = length-take-le t.enodes.len t.enodes.rows.now s.within_limits.0.0 in
+    let long = length-take-le t.enodes.len t.enodes.rows.now t.enodes.in_rows in
     record {
-      within_limits = ((omega (arith, c.push.ensures.len, c.push.ensures.places), omega (arith, c.push.ensures.len)), s.within_limits.1, s.within_limits.2);
       arguments_filed = s.arguments_filed;
       ends_filed = enode_ends t c.push.new.self _ filed s.ends_filed;
       in_lists = enode_in_lists t c.push.new.self _ filed refl s.ends_filed s.in_lists;
@@ -32,7 +31,7 @@ returns g c =
     record {
       outcome =
           enode_outcome t c.push.new.self _ c.push.ensures.listed (g.R.FrameRule.means s.rule) t.enodes.len
-          (length-take-le t.enodes.len t.enodes.rows.now s.within_limits.0.0)
+          (length-take-le t.enodes.len t.enodes.rows.now t.enodes.in_rows)
           c.push.ensures.places c.active_frame-frame.ensures (sym c.if-not-has_room.ensures);
       kept = tt;
     }

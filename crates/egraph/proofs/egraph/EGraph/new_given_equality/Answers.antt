@@ -8,7 +8,7 @@ file_given-requires g c =
     let s = c.args.self.now in
     let e = c.args.expl in
     let p = passed (g.R.FrameRule.means s.rule) s.records s.arguments_filed c.args.from (from_of e) (to_of e) (kind_of e) c.in_ok-check_given.ensures in
-    record { limits = s.within_limits; known = p.from_known; given_room = p.given_room; argument_room = p.argument_room }
+    record { known = p.from_known; given_room = p.given_room; argument_room = p.argument_room }
 
 pub invariant_of-self-2 : goal.invariant_of-self-2
 invariant_of-self-2 g c =
@@ -19,7 +19,6 @@ invariant_of-self-2 g c =
     let f = c.file_given.ensures.filed in
     let p = passed (g.R.FrameRule.means s.rule) t s.arguments_filed c.args.from (from_of e) (to_of e) (kind_of e) c.in_ok-check_given.ensures in
     record {
-      within_limits = f.limits;
       arguments_filed = arguments_filed t u e _ f s.arguments_filed;
       ends_filed = ends_filed t u e _ f s.arguments_filed p.from_known p.to_known s.ends_filed;
       in_lists = in_lists t u e _ f s.arguments_filed p.from_known s.in_lists;

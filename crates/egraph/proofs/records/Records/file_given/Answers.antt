@@ -1,4 +1,4 @@
-use Rattle.std.proofs.Common.{◌≡◌, ◌<◌, [], ◌∷◌, ◌++◌, length, get_or, sym, ap, ◌∙◌, arith}
+use Rattle.std.proofs.Common.{◌≡◌, ◌<◌, [], ◌∷◌, ◌++◌, get_or, sym, ap, ◌∙◌, arith}
 use Rattle.std.proofs.lemmas.List.{length-take-le, get_or-take}
 use Rattle.model.specs.Explanations.{from_of}
 use Rattle.egraph.specs.Table.{listed}
@@ -11,9 +11,9 @@ pub returns : goal.returns
 returns c =
     let t = c.args.self.now in
     let e = c.args.expl in
-    let enodes_long = length-take-le t.enodes.len t.enodes.rows.now c.requires.limits.0.0 in
-    let givens_long = length-take-le t.givens.len t.givens.rows.now c.requires.limits.1.0 in
-    let arguments_long = length-take-le t.arguments.len t.arguments.rows.now c.requires.limits.2.0 in
+    let enodes_long = length-take-le t.enodes.len t.enodes.rows.now t.enodes.in_rows in
+    let givens_long = length-take-le t.givens.len t.givens.rows.now t.givens.in_rows in
+    let arguments_long = length-take-le t.arguments.len t.arguments.rows.now t.arguments.in_rows in
     let under = c.from-under.ensures in
     let low : from_of e < t.enodes.len = omega (arith, c.requires.known, enodes_long) in
     let at : get_or t.enodes.rows.now c.from-under.result no_enode ≡ enode_under t e =
@@ -27,13 +27,5 @@ returns c =
         enode_places = c.put.ensures.places;
         given_places = c.push.ensures.places;
         argument_places = c.push_pairs.ensures.places;
-        limits = (
-          (omega (arith, c.put.ensures.len, c.put.ensures.places, c.requires.limits.0.0), omega (arith, c.put.ensures.len, c.requires.limits.0.1)),
-          (omega (arith, c.push.ensures.len, c.push.ensures.places, c.requires.given_room, givens_long), omega (arith, c.push.ensures.len, c.requires.given_room, givens_long)),
-          (
-            omega (arith, c.push_pairs.ensures.len, c.push_pairs.ensures.places, c.requires.argument_room, arguments_long, ap length c.arg_eqs.ensures),
-            omega (arith, c.push_pairs.ensures.len, c.requires.argument_room, arguments_long, ap length c.arg_eqs.ensures),
-          ),
-        );
       };
     }

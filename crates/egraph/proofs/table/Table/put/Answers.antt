@@ -5,4 +5,4 @@ use Rattle.egraph.proofs.table.Table.put.Goals as goal
 pub returns : goal.returns
 returns g c =
     let t = c.args.self.now in
-    record { len = refl; places = length-set t.rows.now c.args.i c.args.row; listed = take-set-lt t.len t.rows.now c.args.i c.args.row c.requires.0 }
+    record { len = refl; places = length-set t.rows.now c.args.i c.args.row; listed = take-set-lt t.len t.rows.now c.args.i c.args.row c.requires }
