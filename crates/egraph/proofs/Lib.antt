@@ -2,9 +2,7 @@ pub mod Refused
 pub mod GivenChecks
 pub mod Filed
 pub mod GivenFiled
-pub mod GivenList
-pub mod LinkSearch
-pub mod OldestSearch
+pub mod GivensUnder
 pub mod Sizes
 pub mod Places
 pub mod OnWalk

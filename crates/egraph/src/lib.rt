@@ -6,6 +6,7 @@ pub mod egraph;
 pub mod enode;
 pub mod equality;
 mod filing;
+mod givens_under;
 mod links;
 mod logging;
 mod path;

@@ -1,29 +1,28 @@
 // An enode's link, and the oldest given between two enodes.
-ghost use Rattle.std.specs.Prelude.{◌≡◌, ◌<◌, if◌then◌else◌, Some};
+ghost use Rattle.std.specs.Prelude.{◌≡◌, ◌<◌, length};
 ghost use Rattle.model.specs.Refusals.{told};
 ghost use Rattle.model.specs.Records.{oldest_from};
 ghost use Rattle.model.specs.Logging.{between, get_given};
+ghost use Rattle.egraph.specs.Table.{listed};
+ghost use Rattle.egraph.specs.GivensUnder.{newest_first, givens_back};
 ghost use Rattle.egraph.specs.View.{given_list, links_in, records_in, size};
 
 use crate::egraph::EGraph;
-use crate::equality::Given;
+use crate::givens_under::GivensUnder;
 use frames::rule::FrameRule;
 use model::error::Fault;
 use model::items::Link;
 
-// What a search that goes back has found after one given more: that one, where it fits.
-fn found_back(found: Option<u32>, number: u32, fits: bool) -> Option<u32>
-    ensures { result ≡ (if fits then Some number else found) }
-{
-    if fits { Some(number) } else { found }
-}
-
 impl<'a, R: FrameRule> EGraph<'a, R> {
-    // Whether the frame counts that a given was logged in.
-    fn counts(&self, given: Given) -> bool
-        ensures { result ≡ (R.FrameRule.means self.now.rule).counts given.frame }
+    // The givens of an enode, whichever frames count.
+    fn givens_under(&self, enode: u32) -> GivensUnder<'_>
+        requires { enode < size self.now.records }
+        ensures { givens_back result.rows.now result.next ≡ newest_first enode (listed self.now.records.givens) (length (listed self.now.records.givens)) }
     {
-        self.rule.counts(given.frame)
+        GivensUnder {
+            rows: self.records.givens.filed(),
+            next: self.records.enodes.filed()[enode as usize].newest,
+        }
     }
 
     // The newest given of the enode whose frame counts.
@@ -31,18 +30,12 @@ impl<'a, R: FrameRule> EGraph<'a, R> {
         requires { enode < size self.now.records }
         ensures { result ≡ links_in (R.FrameRule.means self.now.rule) self.now.records enode }
     {
-        let mut next = self.records.enodes.rows[enode as usize].newest;
-        while let Some(number) = next {
-            let given = self.records.givens.rows[number as usize];
-            if self.counts(given) {
-                return Some(Link {
-                    given: number,
-                    to: given.to,
-                });
-            }
-            next = given.older;
-        }
-        None
+        self.givens_under(enode)
+            .find(|(_, given)| self.rule.counts(given.frame))
+            .map(|(number, given)| Link {
+                given: number,
+                to: given.to,
+            })
     }
 
     // The oldest given of an enode to another, whichever frames count.
@@ -50,14 +43,10 @@ impl<'a, R: FrameRule> EGraph<'a, R> {
         requires { from < size self.now.records }
         ensures { result ≡ oldest_from 0 (between from to) (given_list self.now.records) }
     {
-        let mut oldest = None;
-        let mut next = self.records.enodes.rows[from as usize].newest;
-        while let Some(number) = next {
-            let given = self.records.givens.rows[number as usize];
-            oldest = found_back(oldest, number, given.to == to);
-            next = given.older;
-        }
-        oldest
+        self.givens_under(from)
+            .filter(|(_, given)| given.to == to)
+            .last()
+            .map(|(number, _)| number)
     }
 
     pub fn get_given(&self, from: u32, to: u32) -> Result<Option<u32>, Fault>

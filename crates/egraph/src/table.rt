@@ -21,6 +21,13 @@ impl<'a, T: Copy, const LIMIT: usize> Table<'a, T, LIMIT> {
         Table { rows, len: 0 }
     }
 
+    // The records on file.
+    pub(crate) fn filed(&self) -> &[T]
+        ensures { result.now ≡ listed self.now }
+    {
+        &self.rows[..self.len]
+    }
+
     // Whether that many records more go in.
     pub(crate) fn has_room(&self, more: usize) -> bool
         ensures { result ≡ nat_le (length (listed self.now) + more) (min LIMIT (places self.now)) }

@@ -1,5 +1,5 @@
 use Rattle.std.proofs.Common.{sym}
-use Rattle.egraph.proofs.GivenList.{given_count}
+use Rattle.egraph.proofs.GivensUnder.{given_count}
 use Rattle.egraph.proofs.egraph.EGraph.given_count.Goals as goal
 
 pub returns : goal.returns

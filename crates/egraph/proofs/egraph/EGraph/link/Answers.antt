@@ -1,32 +1,16 @@
-use Rattle.std.proofs.Common.{sym}
-use Rattle.egraph.proofs.GivenList.{found_in_table, older_falls}
-use Rattle.egraph.proofs.LinkSearch.{search_start, no_link_left, link_found, link_older}
+use Rattle.std.proofs.Common.{◌≡◌, rules, sym, ap, ◌∙◌}
+use Rattle.std.specs.Option.{option_map}
+use Rattle.std.proofs.lemmas.Iterator.Adapters.{option_map_id}
+use borrow.Author.Tests.{tests}
+use Rattle.egraph.specs.GivensUnder.{givens_back}
+use Rattle.std.proofs.lemmas.Iterator.Consumers.{YieldsList-from_first}
+use Rattle.std.proofs.lemmas.Iterator.Search.{find_from_yields_List}
+use Rattle.egraph.proofs.GivensUnder.{link_of, link_found}
 use Rattle.egraph.proofs.egraph.EGraph.link.Goals as goal
 
-pub loop-next-init : goal.loop-next-init
-loop-next-init g c =
-    let s = c.args.self.now in
-    search_start s.records s.in_lists _ c.args.enode c.requires
-
-pub bounds-self-number : goal.bounds-self-number
-bounds-self-number g c =
-    let s = c.args.self.now in
-    found_in_table s.records s.in_lists c.args.enode c.loop-next.next c.loop-next.invariant.bound c.in-Some.number c.loop-next.invariant.along c.in-Some.is
-
-pub returns-then-counts : goal.returns-then-counts
-returns-then-counts g c =
-    let s = c.args.self.now in
-    sym (link_found s.records s.in_lists _ c.args.enode c.loop-next.next c.loop-next.invariant c.in-Some.number c.in-Some.is (sym c.if-counts.ensures))
-
-pub loop-next-smaller : goal.loop-next-smaller
-loop-next-smaller g c =
-    let s = c.args.self.now in
-    older_falls s.records s.in_lists c.args.enode c.loop-next.next c.loop-next.invariant.bound c.in-Some.number c.loop-next.invariant.along c.in-Some.is
-
-pub loop-next-preserved : goal.loop-next-preserved
-loop-next-preserved g c =
-    let s = c.args.self.now in
-    link_older s.records s.in_lists _ c.args.enode c.loop-next.next c.loop-next.invariant c.in-Some.number c.in-Some.is (sym c.if-counts.ensures)
-
 pub returns : goal.returns
-returns g c = sym (no_link_left _ _ c.args.enode c.loop-next.next c.loop-next.invariant c.in_default.is)
+returns g c =
+    let s = c.args.self.now in
+    let found = find_from_yields_List (λ p. (g.R.FrameRule.means s.rule).counts p.1.frame) c.find.new.self _ c.find.result c.find.ensures.ran (YieldsList-from_first (λ x. x) (λ i. givens_back i.rows.now i.next) _ c.givens_under.ensures) (λ x b q k. search (rules, tests)) in
+    let mapped : c.map.result ≡ option_map link_of c.find.result = search rules in
+    mapped ∙ ap (option_map link_of) (sym (option_map_id c.find.result) ∙ found) ∙ link_found s.records (g.R.FrameRule.means s.rule).counts c.args.enode
