@@ -6,7 +6,6 @@ pub mod GivensUnder
 pub mod Sizes
 pub mod Places
 pub mod OnWalk
-pub mod CommonTail
 pub mod TwoWalks
 pub mod PathAnswers
 pub mod StepPlaces

@@ -1,5 +1,6 @@
 -- A root walk with mark bytes, enode by enode. Assumes nothing.
-use Rattle.std.proofs.Common.{◌≡◌, ℕ, ◌+◌, ◌<◌, ◌≤◌, Bool, true, false, cond, List, [], ◌∷◌, ◌++◌, length, get_or, set, replicate, Some, None, Option, sym, refl, ap, ◌∙◌, inl, inr, arith}
+use Rattle.std.proofs.Common.{◌≡◌, ℕ, ◌+◌, ◌<◌, ◌≤◌, Bool, true, false, cond, eqb, List, [], ◌∷◌, ◌++◌, length, get_or, set, replicate, Some, None, Option, sym, refl, ap, ◌∙◌, inl, inr, zero-add, arith}
+use Rattle.std.specs.Option.{option_eq}
 use Rattle.std.proofs.lemmas.List.{get_or-set_same, get_or-set_other, length_push, get_or-replicate}
 use Rattle.std.proofs.lemmas.Bool.{cases_Bool, cases_eq}
 use Rattle.std.proofs.lemmas.Bool.Decides.{nat_tests}
@@ -12,27 +13,31 @@ use Rattle.model.specs.declared.items.RootWalk.{RootWalk}
 use Rattle.model.specs.WalkCalls.{placed, told_walk}
 use Rattle.egraph.proofs.Places.{placed_none, placed_push}
 
+pub told_root : (root : Option ℕ) (e : ℕ) → is_root root e ≡ option_eq eqb root (Some e)
+told_root None e = refl
+told_root (Some r) e = refl
+
 abbrev pub mark : Bool → ℕ
 mark b = cond b 1 0
 
--- the walk from `from` has come to `at`: what it met is marked, and written from `base` on
-pub record OnWalk (next : Links) (root : Option ℕ) (size from base : ℕ) (before : List ℕ) (marks out : List ℕ) (len at : ℕ) : Type 0 where
+-- the walk from `from` has come to `at`: what it met is marked, and written from the first place on
+pub record OnWalk (next : Links) (root : Option ℕ) (size from : ℕ) (before : List ℕ) (marks out : List ℕ) (len at : ℕ) : Type 0 where
   pub done : List ℕ
   pub partway : Partway size done
   pub whole : root_walk next size root from ≡ resume next root size done at
   pub long : length done ≡ len
   pub here : at < size
   pub marked : (x : ℕ) → x < size → get_or marks x 0 ≡ mark (met x done)
-  pub written : out ≡ placed base done before
+  pub written : out ≡ placed 0 done before
 
 -- it ends with these enodes
-pub record Ended (next : Links) (root : Option ℕ) (size from base : ℕ) (before out : List ℕ) (r : RootWalk) : Type 0 where
+pub record Ended (next : Links) (root : Option ℕ) (size from : ℕ) (before out : List ℕ) (r : RootWalk) : Type 0 where
   pub answer : r ≡ told_walk (root_walk next size root from)
-  pub places : out ≡ placed base (root_walk next size root from).enodes before
+  pub places : out ≡ placed 0 (root_walk next size root from).enodes before
   pub bounds : (1 ≤ r.len) × (r.len ≤ size)
 
-module _ (next : Links) (root : Option ℕ) (size from base : ℕ) (before : List ℕ) where
-  pub walk_start : (n : ℕ) (marks : List ℕ) → marks ≡ replicate n 0 → size ≤ n → from < size → OnWalk next root size from base before marks before 0 from
+module _ (next : Links) (root : Option ℕ) (size from : ℕ) (before : List ℕ) where
+  pub walk_start : (n : ℕ) (marks : List ℕ) → marks ≡ replicate n 0 → size ≤ n → from < size → OnWalk next root size from before marks before 0 from
   walk_start n marks clear fits low = record {
     done = [];
     partway = partway_start size;
@@ -40,29 +45,29 @@ module _ (next : Links) (root : Option ℕ) (size from base : ℕ) (before : Lis
     long = refl;
     here = low;
     marked = λ x lt. ap (λ ms. get_or ms x 0) clear ∙ get_or-replicate n x 0 0 (omega arith);
-    written = sym (placed_none base before);
+    written = sym (placed_none 0 before);
   }
 
-  ended : from < size → (out : List ℕ) (r : RootWalk) (w : Walk) → root_walk next size root from ≡ w → r ≡ told_walk w → out ≡ placed base w.enodes before → Ended next root size from base before out r
+  ended : from < size → (out : List ℕ) (r : RootWalk) (w : Walk) → root_walk next size root from ≡ w → r ≡ told_walk w → out ≡ placed 0 w.enodes before → Ended next root size from before out r
   ended low out r w e a b =
       let answer : r ≡ told_walk (root_walk next size root from) = a ∙ ap told_walk (sym e) in
       let first = walk_begins next root size from low in
       let long : r.len ≡ length (root_walk next size root from).enodes = ap (λ x. x.len) answer in
       record {
         answer = answer;
-        places = b ∙ ap (λ x. placed base x.enodes before) (sym e);
+        places = b ∙ ap (λ x. placed 0 x.enodes before) (sym e);
         bounds = (omega (arith, long, ap length first.1), omega (arith, long, walk_short next root size [] from));
       }
 
-  module _ (low : from < size) (marks out : List ℕ) (len at : ℕ) (w : OnWalk next root size from base before marks out len at) where
+  module _ (low : from < size) (marks out : List ℕ) (len at : ℕ) (w : OnWalk next root size from before marks out len at) where
     -- met again
-    seen : met at w.done ≡ true → Ended next root size from base before out (record { tells = Some at; len = len })
+    seen : met at w.done ≡ true → Ended next root size from before out (record { tells = Some at; len = len })
     seen h = ended low out _ _ (w.whole ∙ resume_again next root size w.done at h) (ap (λ n. record { tells = Some at; len = n }) (sym w.long)) w.written
 
-    pub walk_again : (get_or marks at 0 ≡ 0 → ⊥) → Ended next root size from base before out (record { tells = Some at; len = len })
+    pub walk_again : (get_or marks at 0 ≡ 0 → ⊥) → Ended next root size from before out (record { tells = Some at; len = len })
     walk_again h = let m = w.marked at w.here in seen (elim (cases_Bool (met at w.done)) [ inl e ↦ e | inr e ↦ absurd (h (m ∙ ap mark e)) ])
 
-    module _ (new : get_or marks at 0 ≡ 0) (fits : base + size ≤ length before) (room : size ≤ length marks) where
+    module _ (new : get_or marks at 0 ≡ 0) (fits : size ≤ length before) (room : size ≤ length marks) where
       fresh : met at w.done ≡ false
       fresh = let m = w.marked at w.here in elim (cases_Bool (met at w.done)) [ inl e ↦ absurd (let z : ◌≡◌ {A = ℕ} 0 1 = sym new ∙ m ∙ ap mark e in omega arith) | inr e ↦ e ]
 
@@ -72,19 +77,19 @@ module _ (next : Links) (root : Option ℕ) (size from base : ℕ) (before : Lis
       more_long : length (w.done ++ (at ∷ [])) ≡ len + 1
       more_long = length_push w.done at ∙ ap (λ n. n + 1) w.long
 
-      written_more : set out (base + len) at ≡ placed base (w.done ++ (at ∷ [])) before
+      written_more : set out len at ≡ placed 0 (w.done ++ (at ∷ [])) before
       written_more =
           let short : length (w.done ++ (at ∷ [])) ≤ size = distinct_short size (w.done ++ (at ∷ [])) more.distinct more.below in
-          let low : base + length w.done < length before = omega (arith, w.long, more_long) in
-          ap (λ n. set out (base + n) at) (sym w.long) ∙ ap (λ r. set r (base + length w.done) at) w.written ∙ placed_push base w.done before at low
+          let low : 0 + length w.done < length before = omega (arith, w.long, more_long) in
+          ap (λ n. set out n at) (sym (zero-add (length w.done) ∙ w.long)) ∙ ap (λ r. set r (0 + length w.done) at) w.written ∙ placed_push 0 w.done before at low
 
-      pub walk_stops : is_root root at ≡ true → Ended next root size from base before (set out (base + len) at) (record { tells = Some at; len = len + 1 })
+      pub walk_stops : is_root root at ≡ true → Ended next root size from before (set out len at) (record { tells = Some at; len = len + 1 })
       walk_stops h = ended low _ _ _ (w.whole ∙ resume_stops next root size w.done at w.partway w.here fresh h) (ap (λ n. record { tells = Some at; len = n }) (sym more_long)) written_more
 
-      pub walk_ends : is_root root at ≡ false → next at ≡ None → Ended next root size from base before (set out (base + len) at) (record { tells = None; len = len + 1 })
+      pub walk_ends : is_root root at ≡ false → next at ≡ None → Ended next root size from before (set out len at) (record { tells = None; len = len + 1 })
       walk_ends h k = ended low _ _ _ (w.whole ∙ resume_ends next root size w.done at w.partway w.here fresh h k) (ap (λ n. record { tells = None; len = n }) (sym more_long)) written_more
 
-      pub walk_on : is_root root at ≡ false → (l : Link) → next at ≡ Some l → l.to < size → OnWalk next root size from base before (set marks at 1) (set out (base + len) at) (len + 1) l.to
+      pub walk_on : is_root root at ≡ false → (l : Link) → next at ≡ Some l → l.to < size → OnWalk next root size from before (set marks at 1) (set out len at) (len + 1) l.to
       walk_on h l k there = record {
         done = w.done ++ (at ∷ []);
         partway = more;

@@ -7,7 +7,7 @@ use Rattle.model.specs.Checks.{Check, all_known, unless_refused}
 use Rattle.model.specs.Walks.{Links, check_eq}
 use Rattle.model.specs.WalkCalls.{cleared, long_enough, pair_checks, check_eq_call, path_checks, path_call, told_path}
 use Rattle.model.specs.Paths.{path}
-use Rattle.egraph.specs.declared.path.SimplePath.{SimplePath}
+use Rattle.egraph.specs.declared.simple_path.SimplePath.{SimplePath}
 use Rattle.egraph.specs.SimplePath.{FoundPath}
 use Rattle.egraph.proofs.GivenChecks.{both_pass, first_known}
 

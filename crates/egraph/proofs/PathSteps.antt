@@ -1,7 +1,7 @@
 -- The steps of a path over two walks. Assumes nothing.
-use Rattle.std.proofs.Common.{◌≡◌, ℕ, zero, suc, ◌+◌, ◌<◌, ◌≤◌, Bool, true, List, [], ◌∷◌, ◌++◌, reverse, length, get_or, drop, Some, sym, refl, ap, ◌∙◌, subst, inl, inr, append_assoc, arith}
+use Rattle.std.proofs.Common.{◌≡◌, ℕ, zero, suc, ◌+◌, ◌<◌, ◌≤◌, Bool, true, List, [], ◌∷◌, ◌++◌, reverse, length, get_or, take, drop, Some, sym, refl, ap, ◌∙◌, subst, inl, inr, append_assoc, arith}
 use lib.Seq.{take-append_seam, drop-append-add}
-use Rattle.std.proofs.lemmas.List.{drop-drop, length-append, length-reverse}
+use Rattle.std.proofs.lemmas.List.{drop-drop, length-take, length-append, length-reverse}
 use Rattle.std.proofs.lemmas.Bool.{cases_Bool}
 use Rattle.std.proofs.lemmas.Bool.Decides.{nat_tests}
 use Rattle.model.specs.declared.items.Step.{Step}
@@ -48,9 +48,16 @@ shared_first xs ys = omega (arith, common_first (reverse xs) (reverse ys), lengt
 pub shared_second : (xs ys : List ℕ) → shared xs ys ≤ length ys
 shared_second xs ys = omega (arith, common_second (reverse xs) (reverse ys), length-reverse ys)
 
+-- they are among those that two parts hold
+pub shared_in : (n m k : ℕ) (xs ys : List ℕ) → k ≡ shared (take n xs) (take m ys) → (k ≤ n) × (k ≤ m)
+shared_in n m k xs ys is =
+    let first = length-take n xs in
+    let second = length-take m ys in
+    (omega (arith, first, shared_first (take n xs) (take m ys)), omega (arith, second, shared_second (take n xs) (take m ys)))
+
 -- one list behind another
-pub placed_behind : {T : Type 0} (xs ys out : List T) (n : ℕ) → n ≡ length xs → length xs + length ys ≤ length out → placed n ys (placed 0 xs out) ≡ placed 0 (xs ++ ys) out
-placed_behind xs ys out n is fits =
+pub placed_twice : {T : Type 0} (xs ys out : List T) (n : ℕ) → n ≡ length xs → length xs + length ys ≤ length out → placed n ys (placed 0 xs out) ≡ placed 0 (xs ++ ys) out
+placed_twice xs ys out n is fits =
     let behind = drop (0 + length xs) out in
     let rest : 0 + length xs + length ys ≡ 0 + length (xs ++ ys) = omega (arith, length-append xs ys) in
     ap (λ k. placed k ys (placed 0 xs out)) is

@@ -1,6 +1,6 @@
 -- Writing into the places of a list, one after another. Assumes nothing.
-use Rattle.std.proofs.Common.{◌≡◌, ℕ, suc, ◌+◌, ◌<◌, ◌≤◌, List, [], ◌∷◌, ◌++◌, length, get_or, take, drop, set, sym, ap, ◌∙◌, append_assoc, add-zero, arith, length-append, length-drop, drop-cons}
-use Rattle.std.proofs.lemmas.List.{take-append-drop, set_at, length_push, length-take-le}
+use Rattle.std.proofs.Common.{◌≡◌, ℕ, suc, ◌+◌, ◌<◌, ◌≤◌, List, [], ◌∷◌, ◌++◌, length, get_or, take, drop, set, sym, ap, ◌∙◌, append_assoc, add-zero, zero-add, arith, length-append, length-drop, drop-cons}
+use Rattle.std.proofs.lemmas.List.{take-append-drop, set_at, length_push, length-take-le, take_all, drop_all, drop-drop, append-nil}
 use Rattle.model.specs.WalkCalls.{placed}
 
 module _ {T : Type 0} where
@@ -27,3 +27,12 @@ module _ {T : Type 0} where
       ∙ append_assoc (take base out) xs (y ∷ drop (suc n) out)
       ∙ ap (λ r. take base out ++ r) (sym (append_assoc xs (y ∷ []) (drop (suc n) out)))
       ∙ ap (λ k. take base out ++ ((xs ++ (y ∷ [])) ++ drop k out)) next
+
+  -- from the place n on, in the part of the list that begins there
+  pub placed_behind : (n k : ℕ) (xs part out : List T) → n + k ≡ length out → part ≡ placed 0 xs (take k (drop n out)) → take n out ++ (part ++ drop k (drop n out)) ≡ placed n xs out
+  placed_behind n k xs part out fits is =
+      let whole : take k (drop n out) ≡ drop n out = take_all k (drop n out) (omega (arith, length-drop n out)) in
+      let none : drop k (drop n out) ≡ [] = drop_all k (drop n out) (omega (arith, length-drop n out)) in
+      let there : part ≡ xs ++ drop (n + length xs) out =
+      is ∙ ap (placed 0 xs) whole ∙ ap (λ r. xs ++ r) (drop-drop (0 + length xs) n out ∙ ap (λ m. drop (n + m) out) (zero-add (length xs))) in
+      ap (λ r. take n out ++ (part ++ r)) none ∙ ap (λ r. take n out ++ r) (append-nil part ∙ there)

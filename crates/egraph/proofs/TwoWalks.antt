@@ -8,7 +8,7 @@ use Rattle.model.specs.Walks.{Links, root_walk, last}
 use Rattle.model.specs.Paths.{path, join, some_if, shared}
 use Rattle.model.specs.WalkCalls.{placed}
 use Rattle.model.proofs.Walks.{walk_short, walk_begins}
-use Rattle.egraph.specs.declared.path.SimplePath.{SimplePath}
+use Rattle.egraph.specs.declared.simple_path.SimplePath.{SimplePath}
 use Rattle.egraph.specs.SimplePath.{first_part, second_part, walk_from, walk_to, FoundPath}
 use Rattle.egraph.proofs.Places.{placed_length}
 
@@ -138,8 +138,8 @@ module _ (next : Links) (size : ℕ) (p : Pair) (in_f : p.from < size) (in_t : p
       pub roots_differ : (get_or out' (n + m - 1) 0 ≡ get_or out (n - 1) 0 → ⊥) → path next size p.from p.to ≡ None
       roots_differ other = no_path (λ q. other (end_is ∙ q ∙ sym root_is))
 
-      pub roots_meet : get_or out' (n + m - 1) 0 ≡ get_or out (n - 1) 0 → (k : ℕ) → k ≡ shared (first_part n out') (second_part n m out') → FoundPath next size p out' (record { from_to_root = n; to_to_root = m; shared = k })
-      roots_meet same k tail =
-          let stands = path_stands (sym end_is ∙ same ∙ root_is) (record { from_to_root = n; to_to_root = m; shared = k }) is second_is
+      pub roots_meet : get_or out' (n + m - 1) 0 ≡ get_or out (n - 1) 0 → (s : SimplePath) → s.from_to_root ≡ n → s.to_to_root ≡ m → s.shared ≡ shared (first_part n out') (second_part n m out') → FoundPath next size p out' s
+      roots_meet same s f t tail =
+          let stands = path_stands (sym end_is ∙ same ∙ root_is) s (f ∙ is) (t ∙ second_is)
           (tail ∙ (λ i. shared (first_part (is i) (second_wrote i)) (second_part (is i) (second_is i) (second_wrote i)))) in
-          subst (λ w. FoundPath next size p w (record { from_to_root = n; to_to_root = m; shared = k })) (sym second_wrote) stands
+          subst (λ w. FoundPath next size p w s) (sym second_wrote) stands

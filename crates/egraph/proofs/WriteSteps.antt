@@ -12,9 +12,9 @@ use Rattle.model.proofs.Members.{Below}
 use Rattle.model.proofs.Links.{link_within}
 use Rattle.model.proofs.Walks.{Within, walk_below}
 use Rattle.model.proofs.PathLaws.{walks_lawful}
-use Rattle.egraph.specs.declared.path.SimplePath.{SimplePath}
+use Rattle.egraph.specs.declared.simple_path.SimplePath.{SimplePath}
 use Rattle.egraph.specs.SimplePath.{walk_from, walk_to, FoundPath, AllBelow, rising_steps, falling_steps}
-use Rattle.egraph.proofs.PathSteps.{path_short, shared_first, shared_second, placed_behind, below_at}
+use Rattle.egraph.proofs.PathSteps.{path_short, shared_first, shared_second, placed_twice, below_at}
 use Rattle.egraph.proofs.StepPlaces.{rising_long, falling_long}
 
 module _ (next : Links) (size : ℕ) (p : Pair) (walks : List ℕ) (s : SimplePath) (f : FoundPath next size p walks s) where
@@ -85,7 +85,7 @@ module _ (next : Links) (size : ℕ) (p : Pair) (walks : List ℕ) (s : SimplePa
         let r_long = rising_long next (take n walks) ∙ rising_count in
         let l_long = falling_long next (take m (drop s.from_to_root walks)) ∙ falling_count in
         let all : twice ≡ placed 0 (join next F T).steps out =
-        second ∙ ap (placed base L) first ∙ placed_behind R L out base (at ∙ sym r_long) (omega arith) ∙ ap (λ ss. placed 0 ss out) steps_are in
+        second ∙ ap (placed base L) first ∙ placed_twice R L out base (at ∙ sym r_long) (omega arith) ∙ ap (λ ss. placed 0 ss out) steps_are in
         let long : count ≡ length (join next F T).steps = is ∙ sym steps_long in
         (λ i. (Some (long i), all i)) ∙ ap (λ o. told_path o out) (sym f.is)
 

@@ -5,7 +5,7 @@ use Rattle.model.specs.Walks.{Links, root_walk, last}
 use Rattle.model.specs.declared.items.Step.{Step}
 use Rattle.model.specs.Records.{turned}
 use Rattle.model.specs.Paths.{path, join, shared, up}
-use Rattle.egraph.specs.declared.path.SimplePath.{SimplePath}
+use Rattle.egraph.specs.declared.simple_path.SimplePath.{SimplePath}
 
 -- the first f places, and the t places behind them
 abbrev pub first_part : ℕ → List ℕ → List ℕ

@@ -11,6 +11,7 @@ mod links;
 mod logging;
 mod path;
 mod records;
+mod simple_path;
 mod stack;
 mod steps;
 mod table;

@@ -1,56 +1,19 @@
 // The path of a pair: up one enode's root walk to the first enode that both walks share, then down the other's.
 ghost use Rattle.std.specs.Prelude.{◌≡◌, ◌+◌, ◌-◌, ◌*◌, ◌<◌, ◌≤◌, [], ◌∷◌, length, Some, None, MatchOption};
-ghost use Rattle.model.specs.Paths.{path, shared};
+ghost use Rattle.model.specs.Paths.{path};
 ghost use Rattle.model.specs.Refusals.{told};
 ghost use Rattle.model.specs.Checks.{all_known, and_then};
 ghost use Rattle.model.specs.WalkCalls.{cleared, long_enough, pair_checks, path_checks, check_eq_call, path_call, told_path};
 ghost use Rattle.model.specs.PathLaws.{WalkLaws};
 ghost use Rattle.egraph.specs.View.{given_list, links_in, size};
-ghost use Rattle.egraph.specs.SimplePath.{first_part, second_part, FoundPath};
+ghost use Rattle.egraph.specs.SimplePath.{FoundPath};
 
 use crate::checks::check_length;
 use crate::egraph::EGraph;
+use crate::simple_path::{SimplePath, common_tail};
 use frames::rule::FrameRule;
 use model::error::{Fault, asked};
 use model::items::{Pair, Step};
-
-// How long the two walks of a pair are, which stand one behind the other in the scratch, and how long their common tail is.
-#[derive(Drop)]
-pub struct SimplePath {
-    pub from_to_root: usize,
-    pub to_to_root: usize,
-    pub shared: usize,
-}
-
-impl SimplePath {
-    // How many steps go up, to the first enode of the common tail.
-    fn rising(&self) -> usize
-        requires { self.now.shared ≤ self.now.from_to_root }
-        ensures { result ≡ self.now.from_to_root - self.now.shared }
-    {
-        self.from_to_root - self.shared
-    }
-
-    // And how many go down from there.
-    fn falling(&self) -> usize
-        requires { self.now.shared ≤ self.now.to_to_root }
-        ensures { result ≡ self.now.to_to_root - self.now.shared }
-    {
-        self.to_to_root - self.shared
-    }
-}
-
-// The length of the common tail of the first `f` enodes and the `t` behind them.
-fn common_tail(walks: &[u32], f: usize, t: usize) -> usize
-    requires { f + t ≤ length walks.now }
-    ensures { result ≡ shared (first_part f walks.now) (second_part f t walks.now) }
-{
-    let mut shared = 0;
-    while shared < f && shared < t && walks[f - 1 - shared] == walks[f + t - 1 - shared] {
-        shared += 1;
-    }
-    shared
-}
 
 impl<'a, R: FrameRule> EGraph<'a, R> {
     // Walks from both enodes; there is a path where the walks end alike.
@@ -67,17 +30,18 @@ impl<'a, R: FrameRule> EGraph<'a, R> {
         ensures found { MatchOption result (path (links_in (R.FrameRule.means self.now.rule) self.now.records) (size self.now.records) pair.from pair.to ≡ None) (FoundPath (links_in (R.FrameRule.means self.now.rule) self.now.records) (size self.now.records) pair walks.new) }
         ensures marks { marks.new ≡ cleared marks.old }
     {
-        let from = self.walk(pair.from, None, marks, walks, 0);
+        let from = self.walk(pair.from, None, marks, walks);
         let root = walks[from.len - 1];
-        let to = self.walk(pair.to, Some(root), marks, walks, from.len);
+        let to = self.walk(pair.to, Some(root), marks, &mut walks[from.len..]);
+        let walks = &walks[..];
         if walks[from.len + to.len - 1] != root {
             return None;
         }
-        let shared = common_tail(walks, from.len, to.len);
+        let second = &walks[from.len..from.len + to.len];
         Some(SimplePath {
             from_to_root: from.len,
             to_to_root: to.len,
-            shared,
+            shared: common_tail(&walks[..from.len], second),
         })
     }
 
@@ -131,8 +95,12 @@ impl<'a, R: FrameRule> EGraph<'a, R> {
         let rising = found.rising();
         let falling = found.falling();
         let second = found.from_to_root;
-        self.rise(&walks[0..rising], steps, 0);
-        self.fall(&walks[second..second + falling], steps, rising);
+        self.write_links(&walks[..rising], true, steps);
+        self.write_links(
+            &walks[second..second + falling],
+            false,
+            &mut steps[rising..],
+        );
         rising + falling
     }
 

@@ -1,5 +1,5 @@
 // The steps of a path, from the walks that it was found over.
-ghost use Rattle.std.specs.Prelude.{◌≡◌, ◌+◌, ◌<◌, ◌≤◌, map, length};
+ghost use Rattle.std.specs.Prelude.{◌≡◌, ◌+◌, ◌<◌, ◌≤◌, if◌then◌else◌, map, length};
 ghost use Rattle.model.specs.Walks.{links};
 ghost use Rattle.model.specs.Paths.{given_of};
 ghost use Rattle.model.specs.WalkCalls.{placed};
@@ -16,37 +16,24 @@ impl<'a, R: FrameRule> EGraph<'a, R> {
         requires { enode < size self.now.records }
         ensures { result ≡ given_of (links_in (R.FrameRule.means self.now.rule) self.now.records enode) }
     {
-        match self.link(enode) {
-            Some(link) => link.given,
-            None => 0,
-        }
+        self.link(enode).map_or(0, |link| link.given)
     }
 
-    // Up the links of these enodes, in their order, into the places from `base` on.
-    pub(crate) fn rise(&self, enodes: &[u32], steps: &mut [Step], base: usize)
+    // The steps over the links of these enodes: up them in their order, or down them from the last to the first.
+    pub(crate) fn write_links(&self, enodes: &[u32], forward: bool, steps: &mut [Step])
         requires known { AllBelow (size self.now.records) enodes.now }
-        requires places { base + length enodes.now ≤ length steps.old }
-        ensures { steps.new ≡ placed base (rising_steps (links_in (R.FrameRule.means self.now.rule) self.now.records) enodes.now) steps.old }
+        requires places { length enodes.now ≤ length steps.old }
+        ensures { steps.new ≡ placed 0 (if forward then rising_steps (links_in (R.FrameRule.means self.now.rule) self.now.records) enodes.now else falling_steps (links_in (R.FrameRule.means self.now.rule) self.now.records) enodes.now) steps.old }
     {
         for i in 0..enodes.len() {
-            steps[base + i] = Step {
-                given: self.given_up(enodes[i]),
-                forward: true,
+            let enode = if forward {
+                enodes[i]
+            } else {
+                enodes[enodes.len() - 1 - i]
             };
-        }
-    }
-
-    // Down the links of these enodes, from the last to the first, into the places from `base` on.
-    pub(crate) fn fall(&self, enodes: &[u32], steps: &mut [Step], base: usize)
-        requires known { AllBelow (size self.now.records) enodes.now }
-        requires places { base + length enodes.now ≤ length steps.old }
-        ensures { steps.new ≡ placed base (falling_steps (links_in (R.FrameRule.means self.now.rule) self.now.records) enodes.now) steps.old }
-    {
-        let n = enodes.len();
-        for i in 0..n {
-            steps[base + i] = Step {
-                given: self.given_up(enodes[n - 1 - i]),
-                forward: false,
+            steps[i] = Step {
+                given: self.given_up(enode),
+                forward,
             };
         }
     }

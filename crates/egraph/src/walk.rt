@@ -1,6 +1,6 @@
 // Root walks: from an enode along its links, to an enode with no link, before one met again, or to a root that is told.
 ghost use Rattle.std.specs.Prelude.{◌≡◌, ◌+◌, ◌<◌, ◌≤◌, length, replicate};
-ghost use Rattle.model.specs.Walks.{is_root, links, root_walk};
+ghost use Rattle.model.specs.Walks.{links, root_walk};
 ghost use Rattle.egraph.specs.View.{given_list, links_in, size};
 ghost use Rattle.model.specs.Refusals.{told};
 ghost use Rattle.model.specs.WalkCalls.{placed, told_walk, walk_checks, path_to_root};
@@ -26,32 +26,22 @@ impl Drop for Marks<'_> {
     }
 }
 
-fn is_root(root: Option<u32>, enode: u32) -> bool
-    ensures { result ≡ is_root root enode }
-{
-    match root {
-        Some(told) => told == enode,
-        None => false,
-    }
-}
-
 impl<'a, R: FrameRule> EGraph<'a, R> {
-    // Writes the walk from `from` into `out`, from the place `base` on.
+    // Writes the walk from `from` into `out`.
     pub(crate) fn walk(
         &self,
         from: u32,
         root: Option<u32>,
         marks: &mut [u8],
         out: &mut [u32],
-        base: usize,
     ) -> RootWalk
         requires known { from < size self.now.records }
         requires bytes { size self.now.records ≤ length marks.old }
-        requires places { base + size self.now.records ≤ length out.old }
+        requires places { size self.now.records ≤ length out.old }
         ensures walk { result ≡ told_walk (root_walk (links_in (R.FrameRule.means self.now.rule) self.now.records) (size self.now.records) root from) }
         ensures bounds { (1 ≤ result.len) × (result.len ≤ size self.now.records) }
         ensures marks { marks.new ≡ replicate (length marks.old) 0 }
-        ensures out { out.new ≡ placed base (root_walk (links_in (R.FrameRule.means self.now.rule) self.now.records) (size self.now.records) root from).enodes out.old }
+        ensures out { out.new ≡ placed 0 (root_walk (links_in (R.FrameRule.means self.now.rule) self.now.records) (size self.now.records) root from).enodes out.old }
     {
         marks.fill(0);
         let guard = Marks { bytes: marks };
@@ -64,8 +54,8 @@ impl<'a, R: FrameRule> EGraph<'a, R> {
                 };
             }
             guard.bytes[at as usize] = 1;
-            out[base + len] = at;
-            if is_root(root, at) {
+            out[len] = at;
+            if root == Some(at) {
                 return RootWalk {
                     tells: Some(at),
                     len: len + 1,
@@ -98,10 +88,10 @@ impl<'a, R: FrameRule> EGraph<'a, R> {
         check_length(size, marks)?;
         check_length(size, places)?;
         self.check_enode(from)?;
-        match root {
-            Some(told) => self.check_enode(told),
-            None => Ok(()),
+        if let Some(told) = root {
+            self.check_enode(told)?;
         }
+        Ok(())
     }
 
     // The root walk from an enode, which ends at `root` where it is told one. Its enodes are written into `path`; `marks` is scratch.
@@ -116,6 +106,6 @@ impl<'a, R: FrameRule> EGraph<'a, R> {
         ensures laws { WalkLaws (R.FrameRule.means self.now.rule).counts (given_list self.now.records) (size self.now.records) }
     {
         self.check_walk(from, root, marks.len(), path.len())?;
-        Ok(self.walk(from, root, marks, path, 0))
+        Ok(self.walk(from, root, marks, path))
     }
 }
