@@ -14,7 +14,7 @@ use Rattle.egraph.specs.Table.{listed, places}
 use Rattle.egraph.specs.Records.{enode_of, given_of}
 use Rattle.egraph.specs.View.{case_of, given_list, size, ArgumentsFiled, room_checks}
 
-below_is_room : (a b : ℕ) → ltb a b ≡ leb (a + 1) b
+pub below_is_room : (a b : ℕ) → ltb a b ≡ leb (a + 1) b
 below_is_room a b = grind (arith, nat_tests)
 
 pub checks_filed : (m : Frames) (t : Records) → ArgumentsFiled t → (under from to : ℕ) (kind : Kind) →
@@ -42,7 +42,7 @@ pub both_pass : {A : Type 0} (c : Check) (r : Result A Refusal) (a : A) → Ok a
 both_pass (Ok tt) r a h = (refl, h)
 both_pass (Err e) r a h = absurd (let z : ◌≡◌ {A = ℕ} 0 1 = cc in omega arith)
 
-required : (b : Bool) (r : Refusal) → require b r ≡ Ok tt → b ≡ true
+pub required : (b : Bool) (r : Refusal) → require b r ≡ Ok tt → b ≡ true
 required true r h = refl
 required false r h = absurd (let z : ◌≡◌ {A = ℕ} 0 1 = cc in omega arith)
 

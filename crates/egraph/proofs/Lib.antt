@@ -1,4 +1,3 @@
-pub mod Refused
 pub mod GivenChecks
 pub mod Filed
 pub mod GivenFiled

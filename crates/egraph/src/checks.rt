@@ -11,7 +11,7 @@ ghost use Rattle.model.specs.Records.{args_of};
 use crate::egraph::EGraph;
 use frames::rule::FrameRule;
 use model::error::{Cause, Fault, TableName};
-use model::items::{ArgPairs, EqualityExpl};
+use model::items::{ArgPairs, EqualityExpl, Pair};
 
 // Whether a table that is lent has the places needed.
 pub(crate) fn check_length(needed: usize, len: usize) -> Result<(), Fault>
@@ -33,13 +33,19 @@ impl<'a, R: FrameRule> EGraph<'a, R> {
         Ok(())
     }
 
+    pub(crate) fn check_known(&self, pair: Pair) -> Result<(), Fault>
+        ensures { told result ≡ all_known (size self.now.records) (pair.from ∷ pair.to ∷ []) }
+    {
+        self.check_enode(pair.from)?;
+        self.check_enode(pair.to)
+    }
+
     fn check_arguments(&self, arguments: ArgPairs<'_>) -> Result<(), Fault>
         ensures { told result ≡ all_known (size self.now.records) (pair_ends (pairs_of arguments.entry.words.now)) }
     {
         let mut rest = arguments;
         while let Some((pair, behind)) = rest.split_first() {
-            self.check_enode(pair.from)?;
-            self.check_enode(pair.to)?;
+            self.check_known(pair)?;
             rest = behind;
         }
         Ok(())
@@ -58,13 +64,10 @@ impl<'a, R: FrameRule> EGraph<'a, R> {
     fn check_room(&self, arguments: usize) -> Result<(), Fault>
         ensures { told result ≡ room_checks self.now.records arguments }
     {
-        if !self.records.givens.has_room(1) {
-            return Err(Fault::new(Cause::Full(TableName::Givens)));
-        }
-        if !self.records.arguments.has_room(arguments) {
-            return Err(Fault::new(Cause::Full(TableName::Arguments)));
-        }
-        Ok(())
+        self.records.givens.check_room(1, TableName::Givens)?;
+        self.records
+            .arguments
+            .check_room(arguments, TableName::Arguments)
     }
 
     // What a given is checked for, but for the frame's count.

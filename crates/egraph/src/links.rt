@@ -11,7 +11,7 @@ use crate::egraph::EGraph;
 use crate::givens_under::GivensUnder;
 use frames::rule::FrameRule;
 use model::error::Fault;
-use model::items::Link;
+use model::items::{Link, Pair};
 
 impl<'a, R: FrameRule> EGraph<'a, R> {
     // The givens of an enode, whichever frames count.
@@ -52,8 +52,7 @@ impl<'a, R: FrameRule> EGraph<'a, R> {
     pub fn get_given(&self, from: u32, to: u32) -> Result<Option<u32>, Fault>
         ensures { told result ≡ get_given from to (records_in self.now.records) }
     {
-        self.check_enode(from)?;
-        self.check_enode(to)?;
+        self.check_known(Pair { from, to })?;
         Ok(self.oldest_given(from, to))
     }
 }

@@ -8,7 +8,7 @@ ghost use Rattle.egraph.specs.View.{case_of, Unchanged};
 use crate::egraph::EGraph;
 use crate::enode::ENode;
 use frames::rule::FrameRule;
-use model::error::{Cause, Fault, TableName};
+use model::error::{Fault, TableName};
 use model::items::EqualityExpl;
 
 impl<'a, R: FrameRule> EGraph<'a, R> {
@@ -17,9 +17,7 @@ impl<'a, R: FrameRule> EGraph<'a, R> {
         ensures outcome { (told result, case_of (R.FrameRule.means self.new.rule) self.new.records) ≡ new_enode owner (case_of (R.FrameRule.means self.old.rule) self.old.records) }
         ensures kept { OnErr result (Unchanged self.old.records self.new.records × (self.new.rule ≡ self.old.rule)) }
     {
-        if !self.records.enodes.has_room(1) {
-            return Err(Fault::new(Cause::Full(TableName::Enodes)));
-        }
+        self.records.enodes.check_room(1, TableName::Enodes)?;
         let place = self.records.enodes.len as u32;
         let frame = self.rule.active_frame();
         self.records.enodes.push(ENode {

@@ -54,13 +54,6 @@ impl<'a, R: FrameRule> EGraph<'a, R> {
         check_length(2 * size, walks)
     }
 
-    fn check_known(&self, pair: Pair) -> Result<(), Fault>
-        ensures { told result ≡ all_known (size self.now.records) (pair.from ∷ pair.to ∷ []) }
-    {
-        self.check_enode(pair.from)?;
-        self.check_enode(pair.to)
-    }
-
     fn check_pair(&self, pair: Pair, marks: usize, walks: usize) -> Result<(), Fault>
         ensures { told result ≡ pair_checks (size self.now.records) pair marks walks }
     {

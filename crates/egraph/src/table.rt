@@ -1,5 +1,9 @@
 // A table that the caller lends, and how many of its records are on file.
 ghost use Rattle.std.specs.Prelude.{◌≡◌, ◌+◌, ◌<◌, ◌≤◌, min, [], ◌∷◌, ◌++◌, length, nat_le, slice_set};
+ghost use Rattle.model.specs.Refusals.{full, told};
+ghost use Rattle.model.specs.Checks.{require};
+
+use model::error::{Cause, Fault, TableName};
 
 // No more than `LIMIT` records go in, however long the rows are.
 #[derive(Drop)]
@@ -29,10 +33,13 @@ impl<'a, T: Copy, const LIMIT: usize> Table<'a, T, LIMIT> {
     }
 
     // Whether that many records more go in.
-    pub(crate) fn has_room(&self, more: usize) -> bool
-        ensures { result ≡ nat_le (length (listed self.now) + more) (min LIMIT (places self.now)) }
+    pub(crate) fn check_room(&self, more: usize, name: TableName) -> Result<(), Fault>
+        ensures { told result ≡ require (nat_le (length (listed self.now) + more) (min LIMIT (places self.now))) (full name) }
     {
-        more <= LIMIT - self.len && more <= self.rows.len() - self.len
+        if more <= LIMIT - self.len && more <= self.rows.len() - self.len {
+            return Ok(());
+        }
+        Err(Fault::new(Cause::Full(name)))
     }
 
     // Another record in the place of one on file.
