@@ -1,7 +1,11 @@
 -- Writing into the places of a list, one after another. Assumes nothing.
-use Rattle.std.proofs.Common.{◌≡◌, ℕ, suc, ◌+◌, ◌<◌, ◌≤◌, List, [], ◌∷◌, ◌++◌, length, get_or, take, drop, set, sym, ap, ◌∙◌, append_assoc, add-zero, zero-add, arith, length-append, length-drop, drop-cons}
-use Rattle.std.proofs.lemmas.List.{take-append-drop, set_at, length_push, length-take-le, take_all, drop_all, drop-drop, append-nil}
+use Rattle.std.proofs.Common.{◌≡◌, ℕ, suc, ◌+◌, ◌<◌, ◌≤◌, List, [], ◌∷◌, ◌++◌, length, get_or, take, drop, set, sym, ap, ◌∙◌, append_assoc, add-zero, zero-add, arith, length-append, length-drop, length-set, drop-cons}
+use lib.Seq.{take-set-lt}
+use Rattle.std.proofs.lemmas.List.{take_more_set, take-append-drop, set_at, length_push, length-take-le, take_all, drop_all, drop-drop, append-nil}
 use Rattle.model.specs.WalkCalls.{placed}
+
+-- of a write within the first n elements of a list
+pub ruleset filing = (take-set-lt, take_more_set, length-set)
 
 module _ {T : Type 0} where
   pub placed_none : (base : ℕ) (out : List T) → placed base [] out ≡ out

@@ -71,6 +71,7 @@ impl<'a, R: FrameRule> EGraph<'a, R> {
     }
 
     // What a given is checked for, but for the frame's count.
+    #[tactic(auto, using(crate::proofs::GivenChecks::checks_filed))]
     pub(crate) fn check_given(&self, under: u32, expl: EqualityExpl<'_>) -> Result<(), Fault>
         ensures { told result ≡ given_checks under (from_of expl.entry) (to_of expl.entry) (kind_of expl.entry) (case_of (R.FrameRule.means self.now.rule) self.now.records) }
     {

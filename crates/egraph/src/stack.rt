@@ -41,6 +41,7 @@ impl<'a, R: FrameRule> EGraph<'a, R> {
         self.records.enodes.len
     }
 
+    #[tactic(auto, using(crate::proofs::GivensUnder::given_count))]
     pub fn given_count(&self) -> usize
         ensures { result ≡ length (given_list self.now.records) }
     {

@@ -43,6 +43,7 @@ impl<'a, T: Copy, const LIMIT: usize> Table<'a, T, LIMIT> {
     }
 
     // Another record in the place of one on file.
+    #[tactic(auto, using(crate::proofs::Places::filing))]
     pub(crate) fn put(&mut self, i: usize, row: T)
         requires { i < self.old.len }
         ensures len { self.new.len ≡ self.old.len }
@@ -53,6 +54,7 @@ impl<'a, T: Copy, const LIMIT: usize> Table<'a, T, LIMIT> {
     }
 
     // One record more, at the end.
+    #[tactic(auto, using(crate::proofs::Places::filing))]
     pub(crate) fn push(&mut self, row: T)
         requires { self.old.len + 1 ≤ min LIMIT (places self.old) }
         ensures len { self.new.len ≡ self.old.len + 1 }

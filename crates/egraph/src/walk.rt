@@ -95,6 +95,7 @@ impl<'a, R: FrameRule> EGraph<'a, R> {
     }
 
     // The root walk from an enode, which ends at `root` where it is told one. Its enodes are written into `path`; `marks` is scratch.
+    #[tactic(auto, using(model::proofs::PathLaws::walks_lawful))]
     pub fn path_to_root(
         &self,
         from: u32,
