@@ -62,6 +62,7 @@ impl<'a, R: FrameRule> EGraph<'a, R> {
     }
 
     // Whether the root walks of two enodes share one. `marks` and `walks` are scratch.
+    #[tactic(auto, using(model::proofs::PathLaws::walks_lawful))]
     pub fn check_eq(
         &self,
         from: u32,
@@ -106,6 +107,7 @@ impl<'a, R: FrameRule> EGraph<'a, R> {
     }
 
     // How many steps the path of a pair has, which are written into `steps`; none where there is no path. `marks` and `walks` are scratch.
+    #[tactic(auto, using(model::proofs::PathLaws::walks_lawful))]
     pub fn path(
         &self,
         from: u32,

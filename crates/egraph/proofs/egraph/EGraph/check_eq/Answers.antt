@@ -1,4 +1,4 @@
-use Rattle.std.proofs.Common.{ap, ◌∙◌, rules}
+use Rattle.std.proofs.Common.{ap, ◌∙◌}
 use Rattle.model.specs.declared.items.Pair.{Pair}
 use Rattle.model.specs.Refusals.{asked}
 use Rattle.model.specs.Walks.{links}
@@ -6,9 +6,6 @@ use Rattle.egraph.specs.View.{given_list, size}
 use Rattle.model.proofs.PathLaws.{walks_lawful}
 use Rattle.egraph.proofs.PathAnswers.{found_some, pair_known, eq_answered}
 use Rattle.egraph.proofs.egraph.EGraph.check_eq.Goals as goal
-
-pub returns-in_err-asked : goal.returns-in_err-asked
-returns-in_err-asked g c = record { outcome = search rules; laws = walks_lawful _ _ _ c.args.self.now.ends_filed }
 
 pub returns : goal.returns
 returns g c =

@@ -1,13 +1,10 @@
-use Rattle.std.proofs.Common.{sym, ap, ◌∙◌, rules}
+use Rattle.std.proofs.Common.{sym, ap, ◌∙◌}
 use Rattle.model.specs.declared.items.Pair.{Pair}
 use Rattle.model.specs.Refusals.{asked}
 use Rattle.model.specs.WalkCalls.{told_path}
 use Rattle.model.proofs.PathLaws.{walks_lawful}
 use Rattle.egraph.proofs.PathAnswers.{path_answered}
 use Rattle.egraph.proofs.egraph.EGraph.path.Goals as goal
-
-pub returns-in_err-asked : goal.returns-in_err-asked
-returns-in_err-asked g c = record { outcome = search rules; laws = walks_lawful _ _ _ c.args.self.now.ends_filed }
 
 pub returns-in_default : goal.returns-in_default
 returns-in_default g c =
