@@ -20,9 +20,6 @@ module _ {T : Type 0} (n : ℕ) (xs out : List T) (long : length xs ≡ n) where
       ∙ ap (λ z. placed 0 (take i xs ++ (z ∷ [])) out) (sym at)
       ∙ ap (λ zs. placed 0 zs out) (sym (take_more xs i y (omega arith)))
 
-  pub all_placed : (i : ℕ) (now : List T) → n ≤ i → now ≡ placed 0 (take i xs) out → now ≡ placed 0 xs out
-  all_placed i now le is = is ∙ ap (λ zs. placed 0 zs out) (take_all i xs (omega arith))
-
 module _ (next : Links) (es : List ℕ) where
   pub rising_long : length (rising_steps next es) ≡ length es
   rising_long = length-map es (up next)

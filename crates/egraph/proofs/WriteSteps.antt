@@ -30,12 +30,6 @@ module _ (next : Links) (size : ℕ) (p : Pair) (walks : List ℕ) (s : SimplePa
   second_long : length T ≡ s.to_to_root
   second_long = ap length (sym f.second) ∙ length-take-le s.to_to_root (drop s.from_to_root walks) (omega (arith, f.within, length-drop s.from_to_root walks))
 
-  pub tail_in_first : s.shared ≤ s.from_to_root
-  tail_in_first = omega (arith, f.tail, shared_first F T, first_long)
-
-  pub tail_in_second : s.shared ≤ s.to_to_root
-  tail_in_second = omega (arith, f.tail, shared_second F T, second_long)
-
   module _ (n m : ℕ) (up_is : n ≡ s.from_to_root - s.shared) (down_is : m ≡ s.to_to_root - s.shared) where
     -- the enodes that the path leaves on its way up
     rising_part : take n walks ≡ without_last (shared F T) F
