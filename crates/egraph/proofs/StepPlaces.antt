@@ -1,6 +1,6 @@
 -- The steps of a path, place by place. Assumes nothing.
 use Rattle.std.proofs.Common.{◌≡◌, ℕ, ◌+◌, ◌-◌, ◌<◌, ◌≤◌, Bool, true, false, cond, List, [], ◌∷◌, ◌++◌, map, reverse, length, get_or, take, set, sym, ap, ◌∙◌, arith}
-use Rattle.std.proofs.lemmas.List.{get_or-map, get_or-reverse, length-map, length-reverse, take_more, take_all, length-take-le}
+use Rattle.std.proofs.lemmas.List.{get_or-map, get_or-reverse, length-map, length-reverse, take_more, length-take-le}
 use Rattle.model.specs.declared.items.Step.{Step}
 use Rattle.model.specs.Records.{turn_step}
 use Rattle.model.specs.Walks.{Links}

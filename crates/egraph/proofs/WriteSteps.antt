@@ -14,7 +14,7 @@ use Rattle.model.proofs.Walks.{Within, walk_below}
 use Rattle.model.proofs.PathLaws.{walks_lawful}
 use Rattle.egraph.specs.declared.simple_path.SimplePath.{SimplePath}
 use Rattle.egraph.specs.SimplePath.{walk_from, walk_to, FoundPath, AllBelow, rising_steps, falling_steps}
-use Rattle.egraph.proofs.PathSteps.{path_short, shared_first, shared_second, placed_twice, below_at}
+use Rattle.egraph.proofs.PathSteps.{path_short, placed_twice, below_at}
 use Rattle.egraph.proofs.StepPlaces.{rising_long, falling_long}
 
 module _ (next : Links) (size : ℕ) (p : Pair) (walks : List ℕ) (s : SimplePath) (f : FoundPath next size p walks s) where

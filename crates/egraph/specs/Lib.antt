@@ -4,3 +4,4 @@ pub mod GivensUnder
 pub mod View
 pub mod Filing
 pub mod SimplePath
+pub mod Graph

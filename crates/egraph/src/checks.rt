@@ -5,7 +5,8 @@ ghost use Rattle.model.specs.Checks.{all_known};
 ghost use Rattle.model.specs.Explanations.{pairs_of, from_of, to_of, kind_of};
 ghost use Rattle.model.specs.Logging.{pair_ends, given_checks};
 ghost use Rattle.model.specs.WalkCalls.{long_enough};
-ghost use Rattle.egraph.specs.View.{size, case_of, room_checks};
+ghost use Rattle.egraph.specs.Graph.{case_on_file, size_on_file};
+ghost use Rattle.egraph.specs.View.{room_checks};
 ghost use Rattle.model.specs.Records.{args_of};
 
 use crate::egraph::EGraph;
@@ -25,7 +26,7 @@ pub(crate) fn check_length(needed: usize, len: usize) -> Result<(), Fault>
 
 impl<'a, R: FrameRule> EGraph<'a, R> {
     pub(crate) fn check_enode(&self, enode: u32) -> Result<(), Fault>
-        ensures { told result ≡ all_known (size self.now.records) (enode ∷ []) }
+        ensures { told result ≡ all_known (size_on_file self.now) (enode ∷ []) }
     {
         if enode as usize >= self.records.enodes.len {
             return Err(Fault::new(Cause::UnknownEnode(enode)));
@@ -34,14 +35,14 @@ impl<'a, R: FrameRule> EGraph<'a, R> {
     }
 
     pub(crate) fn check_known(&self, pair: Pair) -> Result<(), Fault>
-        ensures { told result ≡ all_known (size self.now.records) (pair.from ∷ pair.to ∷ []) }
+        ensures { told result ≡ all_known (size_on_file self.now) (pair.from ∷ pair.to ∷ []) }
     {
         self.check_enode(pair.from)?;
         self.check_enode(pair.to)
     }
 
     fn check_arguments(&self, arguments: ArgPairs<'_>) -> Result<(), Fault>
-        ensures { told result ≡ all_known (size self.now.records) (pair_ends (pairs_of arguments.entry.words.now)) }
+        ensures { told result ≡ all_known (size_on_file self.now) (pair_ends (pairs_of arguments.entry.words.now)) }
     {
         let mut rest = arguments;
         while let Some((pair, behind)) = rest.split_first() {
@@ -52,7 +53,7 @@ impl<'a, R: FrameRule> EGraph<'a, R> {
     }
 
     fn check_ends(&self, under: u32, expl: EqualityExpl<'_>) -> Result<(), Fault>
-        ensures { told result ≡ all_known (size self.now.records) (under ∷ from_of expl.entry ∷ to_of expl.entry ∷ pair_ends (args_of (kind_of expl.entry))) }
+        ensures { told result ≡ all_known (size_on_file self.now) (under ∷ from_of expl.entry ∷ to_of expl.entry ∷ pair_ends (args_of (kind_of expl.entry))) }
     {
         self.check_enode(under)?;
         self.check_enode(expl.from())?;
@@ -73,7 +74,7 @@ impl<'a, R: FrameRule> EGraph<'a, R> {
     // What a given is checked for, but for the frame's count.
     #[tactic(auto, using(crate::proofs::GivenChecks::checks_filed))]
     pub(crate) fn check_given(&self, under: u32, expl: EqualityExpl<'_>) -> Result<(), Fault>
-        ensures { told result ≡ given_checks under (from_of expl.entry) (to_of expl.entry) (kind_of expl.entry) (case_of (R.FrameRule.means self.now.rule) self.now.records) }
+        ensures { told result ≡ given_checks under (from_of expl.entry) (to_of expl.entry) (kind_of expl.entry) (case_on_file self.now) }
     {
         self.check_ends(under, expl)?;
         if under != expl.from() {

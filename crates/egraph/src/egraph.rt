@@ -1,7 +1,7 @@
 // The records of a case in tables that the caller lends, with the frame rule beside them.
 ghost use Rattle.std.specs.Prelude.{◌≡◌, length};
 ghost use Rattle.model.specs.Logging.{empty_case};
-ghost use Rattle.egraph.specs.View.{case_of, ArgumentsFiled, EndsFiled, InLists};
+ghost use Rattle.egraph.specs.View.{ArgumentsFiled, EndsFiled, InLists};
 
 use crate::enode::ENode;
 use crate::equality::Given;
@@ -20,6 +20,8 @@ pub struct EGraph<'a, R: FrameRule> {
 }
 
 impl<'a, R: FrameRule> EGraph<'a, R> {
+    ghost use Rattle.egraph.specs.Graph.{case_on_file};
+
     // An empty case: nothing is on file, whatever the tables hold.
     pub fn new(
         enodes: &'a mut [ENode],
@@ -27,7 +29,7 @@ impl<'a, R: FrameRule> EGraph<'a, R> {
         arguments: &'a mut [Pair],
         rule: R,
     ) -> EGraph<'a, R>
-        ensures { case_of (R.FrameRule.means result.rule) result.records ≡ empty_case (record { enodes = length enodes.old; givens = length givens.old; arguments = length arguments.old }) (R.FrameRule.means rule) }
+        ensures { case_on_file result ≡ empty_case (record { enodes = length enodes.old; givens = length givens.old; arguments = length arguments.old }) (R.FrameRule.means rule) }
     {
         EGraph {
             records: Records {

@@ -5,7 +5,8 @@ ghost use Rattle.model.specs.Records.{oldest_from};
 ghost use Rattle.model.specs.Logging.{between, get_given};
 ghost use Rattle.egraph.specs.Table.{listed};
 ghost use Rattle.egraph.specs.GivensUnder.{newest_first, givens_back};
-ghost use Rattle.egraph.specs.View.{given_list, links_in, records_in, size};
+ghost use Rattle.egraph.specs.Graph.{links_on_file, givens_on_file, size_on_file};
+ghost use Rattle.egraph.specs.View.{records_in};
 
 use crate::egraph::EGraph;
 use crate::givens_under::GivensUnder;
@@ -16,7 +17,7 @@ use model::items::{Link, Pair};
 impl<'a, R: FrameRule> EGraph<'a, R> {
     // The givens of an enode, whichever frames count.
     fn givens_under(&self, enode: u32) -> GivensUnder<'_>
-        requires { enode < size self.now.records }
+        requires { enode < size_on_file self.now }
         ensures { givens_back result.rows.now result.next ≡ newest_first enode (listed self.now.records.givens) (length (listed self.now.records.givens)) }
     {
         GivensUnder {
@@ -27,8 +28,8 @@ impl<'a, R: FrameRule> EGraph<'a, R> {
 
     // The newest given of the enode whose frame counts.
     pub(crate) fn link(&self, enode: u32) -> Option<Link>
-        requires { enode < size self.now.records }
-        ensures { result ≡ links_in (R.FrameRule.means self.now.rule) self.now.records enode }
+        requires { enode < size_on_file self.now }
+        ensures { result ≡ links_on_file self.now enode }
     {
         self.givens_under(enode)
             .find(|(_, given)| self.rule.counts(given.frame))
@@ -40,8 +41,8 @@ impl<'a, R: FrameRule> EGraph<'a, R> {
 
     // The oldest given of an enode to another, whichever frames count.
     fn oldest_given(&self, from: u32, to: u32) -> Option<u32>
-        requires { from < size self.now.records }
-        ensures { result ≡ oldest_from 0 (between from to) (given_list self.now.records) }
+        requires { from < size_on_file self.now }
+        ensures { result ≡ oldest_from 0 (between from to) (givens_on_file self.now) }
     {
         self.givens_under(from)
             .filter(|(_, given)| given.to == to)

@@ -5,7 +5,7 @@ ghost use Rattle.model.specs.Refusals.{told};
 ghost use Rattle.model.specs.Checks.{all_known, and_then};
 ghost use Rattle.model.specs.WalkCalls.{cleared, long_enough, pair_checks, path_checks, check_eq_call, path_call, told_path};
 ghost use Rattle.model.specs.PathLaws.{WalkLaws};
-ghost use Rattle.egraph.specs.View.{given_list, links_in, size};
+ghost use Rattle.egraph.specs.Graph.{frames_of, links_on_file, givens_on_file, size_on_file};
 ghost use Rattle.egraph.specs.SimplePath.{FoundPath};
 
 use crate::checks::check_length;
@@ -23,11 +23,11 @@ impl<'a, R: FrameRule> EGraph<'a, R> {
         marks: &mut [u8],
         walks: &mut [u32],
     ) -> Option<SimplePath>
-        requires from { pair.from < size self.now.records }
-        requires to { pair.to < size self.now.records }
-        requires bytes { size self.now.records ≤ length marks.old }
-        requires places { 2 * size self.now.records ≤ length walks.old }
-        ensures found { MatchOption result (path (links_in (R.FrameRule.means self.now.rule) self.now.records) (size self.now.records) pair.from pair.to ≡ None) (FoundPath (links_in (R.FrameRule.means self.now.rule) self.now.records) (size self.now.records) pair walks.new) }
+        requires from { pair.from < size_on_file self.now }
+        requires to { pair.to < size_on_file self.now }
+        requires bytes { size_on_file self.now ≤ length marks.old }
+        requires places { 2 * size_on_file self.now ≤ length walks.old }
+        ensures found { MatchOption result (path (links_on_file self.now) (size_on_file self.now) pair.from pair.to ≡ None) (FoundPath (links_on_file self.now) (size_on_file self.now) pair walks.new) }
         ensures marks { marks.new ≡ cleared marks.old }
     {
         let from = self.walk(pair.from, None, marks, walks);
@@ -47,7 +47,7 @@ impl<'a, R: FrameRule> EGraph<'a, R> {
 
     // Whether the scratch is long enough for the two walks of a pair.
     fn check_scratch(&self, marks: usize, walks: usize) -> Result<(), Fault>
-        ensures { told result ≡ and_then (long_enough (size self.now.records) marks) (long_enough (2 * size self.now.records) walks) }
+        ensures { told result ≡ and_then (long_enough (size_on_file self.now) marks) (long_enough (2 * size_on_file self.now) walks) }
     {
         let size = self.records.enodes.len;
         check_length(size, marks)?;
@@ -55,7 +55,7 @@ impl<'a, R: FrameRule> EGraph<'a, R> {
     }
 
     fn check_pair(&self, pair: Pair, marks: usize, walks: usize) -> Result<(), Fault>
-        ensures { told result ≡ pair_checks (size self.now.records) pair marks walks }
+        ensures { told result ≡ pair_checks (size_on_file self.now) pair marks walks }
     {
         self.check_scratch(marks, walks)?;
         self.check_known(pair)
@@ -70,8 +70,8 @@ impl<'a, R: FrameRule> EGraph<'a, R> {
         marks: &mut [u8],
         walks: &mut [u32],
     ) -> Result<bool, Fault>
-        ensures outcome { (told result, marks.new) ≡ check_eq_call (links_in (R.FrameRule.means self.now.rule) self.now.records) (size self.now.records) (record { from = from; to = to }) marks.old (length walks.old) }
-        ensures laws { WalkLaws (R.FrameRule.means self.now.rule).counts (given_list self.now.records) (size self.now.records) }
+        ensures outcome { (told result, marks.new) ≡ check_eq_call (links_on_file self.now) (size_on_file self.now) (record { from = from; to = to }) marks.old (length walks.old) }
+        ensures laws { WalkLaws (frames_of self.now).counts (givens_on_file self.now) (size_on_file self.now) }
     {
         let pair = Pair { from, to };
         asked(pair, self.check_pair(pair, marks.len(), walks.len()))?;
@@ -80,11 +80,11 @@ impl<'a, R: FrameRule> EGraph<'a, R> {
 
     // Writes the steps of a path over the walks that it was found on, and answers how many there are.
     fn write_steps(&self, found: SimplePath, pair: Pair, walks: &[u32], steps: &mut [Step]) -> usize
-        requires from { pair.from < size self.now.records }
-        requires to { pair.to < size self.now.records }
-        requires found { FoundPath (links_in (R.FrameRule.means self.now.rule) self.now.records) (size self.now.records) pair walks.now found }
-        requires places { size self.now.records ≤ length steps.old }
-        ensures { (Some result, steps.new) ≡ told_path (path (links_in (R.FrameRule.means self.now.rule) self.now.records) (size self.now.records) pair.from pair.to) steps.old }
+        requires from { pair.from < size_on_file self.now }
+        requires to { pair.to < size_on_file self.now }
+        requires found { FoundPath (links_on_file self.now) (size_on_file self.now) pair walks.now found }
+        requires places { size_on_file self.now ≤ length steps.old }
+        ensures { (Some result, steps.new) ≡ told_path (path (links_on_file self.now) (size_on_file self.now) pair.from pair.to) steps.old }
     {
         let rising = found.rising();
         let falling = found.falling();
@@ -99,7 +99,7 @@ impl<'a, R: FrameRule> EGraph<'a, R> {
     }
 
     fn check_path(&self, pair: Pair, marks: usize, walks: usize, steps: usize) -> Result<(), Fault>
-        ensures { told result ≡ path_checks (size self.now.records) pair marks walks steps }
+        ensures { told result ≡ path_checks (size_on_file self.now) pair marks walks steps }
     {
         self.check_scratch(marks, walks)?;
         check_length(self.records.enodes.len, steps)?;
@@ -116,8 +116,8 @@ impl<'a, R: FrameRule> EGraph<'a, R> {
         walks: &mut [u32],
         steps: &mut [Step],
     ) -> Result<Option<usize>, Fault>
-        ensures outcome { (told result, (marks.new, steps.new)) ≡ path_call (links_in (R.FrameRule.means self.now.rule) self.now.records) (size self.now.records) (record { from = from; to = to }) marks.old (length walks.old) steps.old }
-        ensures laws { WalkLaws (R.FrameRule.means self.now.rule).counts (given_list self.now.records) (size self.now.records) }
+        ensures outcome { (told result, (marks.new, steps.new)) ≡ path_call (links_on_file self.now) (size_on_file self.now) (record { from = from; to = to }) marks.old (length walks.old) steps.old }
+        ensures laws { WalkLaws (frames_of self.now).counts (givens_on_file self.now) (size_on_file self.now) }
     {
         let pair = Pair { from, to };
         asked(

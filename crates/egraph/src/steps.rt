@@ -3,7 +3,7 @@ ghost use Rattle.std.specs.Prelude.{◌≡◌, ◌+◌, ◌<◌, ◌≤◌, if�
 ghost use Rattle.model.specs.Walks.{links};
 ghost use Rattle.model.specs.Paths.{given_of};
 ghost use Rattle.model.specs.WalkCalls.{placed};
-ghost use Rattle.egraph.specs.View.{links_in, size};
+ghost use Rattle.egraph.specs.Graph.{links_on_file, size_on_file};
 ghost use Rattle.egraph.specs.SimplePath.{AllBelow, rising_steps, falling_steps};
 
 use crate::egraph::EGraph;
@@ -13,17 +13,17 @@ use model::items::Step;
 impl<'a, R: FrameRule> EGraph<'a, R> {
     // The given that an enode's link follows.
     fn given_up(&self, enode: u32) -> u32
-        requires { enode < size self.now.records }
-        ensures { result ≡ given_of (links_in (R.FrameRule.means self.now.rule) self.now.records enode) }
+        requires { enode < size_on_file self.now }
+        ensures { result ≡ given_of (links_on_file self.now enode) }
     {
         self.link(enode).map_or(0, |link| link.given)
     }
 
     // The steps over the links of these enodes: up them in their order, or down them from the last to the first.
     pub(crate) fn write_links(&self, enodes: &[u32], forward: bool, steps: &mut [Step])
-        requires known { AllBelow (size self.now.records) enodes.now }
+        requires known { AllBelow (size_on_file self.now) enodes.now }
         requires places { length enodes.now ≤ length steps.old }
-        ensures { steps.new ≡ placed 0 (if forward then rising_steps (links_in (R.FrameRule.means self.now.rule) self.now.records) enodes.now else falling_steps (links_in (R.FrameRule.means self.now.rule) self.now.records) enodes.now) steps.old }
+        ensures { steps.new ≡ placed 0 (if forward then rising_steps (links_on_file self.now) enodes.now else falling_steps (links_on_file self.now) enodes.now) steps.old }
     {
         for i in 0..enodes.len() {
             let enode = if forward {

@@ -1,7 +1,7 @@
 // Root walks: from an enode along its links, to an enode with no link, before one met again, or to a root that is told.
 ghost use Rattle.std.specs.Prelude.{◌≡◌, ◌+◌, ◌<◌, ◌≤◌, length, replicate};
 ghost use Rattle.model.specs.Walks.{links, root_walk};
-ghost use Rattle.egraph.specs.View.{given_list, links_in, size};
+ghost use Rattle.egraph.specs.Graph.{frames_of, links_on_file, givens_on_file, size_on_file};
 ghost use Rattle.model.specs.Refusals.{told};
 ghost use Rattle.model.specs.WalkCalls.{placed, told_walk, walk_checks, path_to_root};
 ghost use Rattle.model.specs.PathLaws.{WalkLaws};
@@ -35,13 +35,13 @@ impl<'a, R: FrameRule> EGraph<'a, R> {
         marks: &mut [u8],
         out: &mut [u32],
     ) -> RootWalk
-        requires known { from < size self.now.records }
-        requires bytes { size self.now.records ≤ length marks.old }
-        requires places { size self.now.records ≤ length out.old }
-        ensures walk { result ≡ told_walk (root_walk (links_in (R.FrameRule.means self.now.rule) self.now.records) (size self.now.records) root from) }
-        ensures bounds { (1 ≤ result.len) × (result.len ≤ size self.now.records) }
+        requires known { from < size_on_file self.now }
+        requires bytes { size_on_file self.now ≤ length marks.old }
+        requires places { size_on_file self.now ≤ length out.old }
+        ensures walk { result ≡ told_walk (root_walk (links_on_file self.now) (size_on_file self.now) root from) }
+        ensures bounds { (1 ≤ result.len) × (result.len ≤ size_on_file self.now) }
         ensures marks { marks.new ≡ replicate (length marks.old) 0 }
-        ensures out { out.new ≡ placed 0 (root_walk (links_in (R.FrameRule.means self.now.rule) self.now.records) (size self.now.records) root from).enodes out.old }
+        ensures out { out.new ≡ placed 0 (root_walk (links_on_file self.now) (size_on_file self.now) root from).enodes out.old }
     {
         marks.fill(0);
         let guard = Marks { bytes: marks };
@@ -82,7 +82,7 @@ impl<'a, R: FrameRule> EGraph<'a, R> {
         marks: usize,
         places: usize,
     ) -> Result<(), Fault>
-        ensures { told result ≡ walk_checks (size self.now.records) from root marks places }
+        ensures { told result ≡ walk_checks (size_on_file self.now) from root marks places }
     {
         let size = self.records.enodes.len;
         check_length(size, marks)?;
@@ -103,8 +103,8 @@ impl<'a, R: FrameRule> EGraph<'a, R> {
         marks: &mut [u8],
         path: &mut [u32],
     ) -> Result<RootWalk, Fault>
-        ensures outcome { (told result, (marks.new, path.new)) ≡ path_to_root (links_in (R.FrameRule.means self.now.rule) self.now.records) (size self.now.records) from root marks.old path.old }
-        ensures laws { WalkLaws (R.FrameRule.means self.now.rule).counts (given_list self.now.records) (size self.now.records) }
+        ensures outcome { (told result, (marks.new, path.new)) ≡ path_to_root (links_on_file self.now) (size_on_file self.now) from root marks.old path.old }
+        ensures laws { WalkLaws (frames_of self.now).counts (givens_on_file self.now) (size_on_file self.now) }
     {
         self.check_walk(from, root, marks.len(), path.len())?;
         Ok(self.walk(from, root, marks, path))
