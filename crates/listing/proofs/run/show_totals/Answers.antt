@@ -8,6 +8,5 @@ use Rattle.listing.proofs.run.show_totals.Goals as goal
 pub overflow_cast-givens : goal.overflow_cast-givens
 overflow_cast-givens g c =
     let t = c.args.graph.now.records in
-    let fits = c.args.graph.now.within_limits.1 in
     let rows : length (given_list t) ≡ length (listed t.givens) = length-map (listed t.givens) _ in
-    omega (arith, rows, fits, length-take-le t.givens.len t.givens.rows.now fits.0)
+    omega (arith, rows, t.givens.in_limit, length-take-le t.givens.len t.givens.rows.now t.givens.in_rows)
