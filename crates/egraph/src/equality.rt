@@ -1,4 +1,4 @@
-// A given's record. The givens logged under one enode form a list, newest first.
+// A given's record. The givens logged under one enode form a list, newest first; they go by number, since the tables are lent and there is no heap.
 
 // Where a given came from. A congruence has `len` argument pairs from the place `start` on.
 #[derive(Clone, Copy, Default, PartialEq, Eq, Debug)]

@@ -16,7 +16,7 @@ use model::error::{Fault, asked};
 use model::items::{Pair, Step};
 
 impl<'a, R: FrameRule> EGraph<'a, R> {
-    // Walks from both enodes; there is a path where the walks end alike.
+    // Walks from both enodes; there is a path where the walks end alike. The scratch is no struct, since this call alone would take it whole: the checks ask for lengths, and `write_steps` for the walks.
     pub(crate) fn get_simple_path(
         &self,
         pair: Pair,

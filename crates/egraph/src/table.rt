@@ -1,4 +1,4 @@
-// A table that the caller lends, and how many of its records are on file.
+// A table that the caller lends, and how many of its records are on file: there is no heap, so that it is no Vec.
 ghost use Rattle.std.specs.Prelude.{◌≡◌, ◌+◌, ◌<◌, ◌≤◌, min, [], ◌∷◌, ◌++◌, length, nat_le, slice_set};
 ghost use Rattle.model.specs.Refusals.{full, told};
 ghost use Rattle.model.specs.Checks.{require};
