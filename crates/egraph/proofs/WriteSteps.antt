@@ -1,5 +1,5 @@
 -- A path that was found over two walks, step by step. Assumes nothing.
-use Rattle.std.proofs.Common.{◌≡◌, ℕ, ◌+◌, ◌-◌, ◌<◌, ◌≤◌, Bool, List, [], ◌++◌, length, take, drop, Some, None, Option, sym, ap, ◌∙◌, arith}
+use Rattle.std.proofs.Common.{◌≡◌, ℕ, ◌+◌, ◌-◌, ◌<◌, ◌≤◌, Bool, List, [], ◌++◌, length, take, drop, Some, None, Option, sym, refl, ap, ◌∙◌, arith}
 use Rattle.std.proofs.lemmas.List.{length-append, length-take-le, length-drop, take-take, get_or-take}
 use Rattle.model.specs.declared.items.Pair.{Pair}
 use Rattle.model.specs.declared.items.Step.{Step}
@@ -88,23 +88,25 @@ module _ (counts : ℕ → Bool) (gs : List Given) (size : ℕ) (known : EndsKno
   within : Within (links counts gs) size
   within e l h = link_within counts gs e l h size known
 
-  pub rise_known : AllBelow size (take n walks)
-  rise_known = rising_known (links counts gs) size p walks s f n m up_is down_is (walk_below (links counts gs) None size size [] p.from within in_f)
-
-  pub fall_known : AllBelow size (take m (drop s.from_to_root walks))
-  fall_known = falling_known (links counts gs) size p walks s f n m up_is down_is (walk_below (links counts gs) (Some (last p.from (walk_from (links counts gs) size p))) size size [] p.to within in_t)
-
   few_steps : n + m < size
   few_steps =
       let laws = walks_lawful counts gs size known in
       omega (arith, path_short counts gs size laws known p.from p.to in_f in_t _ f.is, steps_long (links counts gs) size p walks s f n m up_is down_is)
 
-  pub rise_places : length (take n walks) < size
-  rise_places = omega (arith, few_steps, rising_count (links counts gs) size p walks s f n m up_is down_is)
+  -- what the two parts are that the path's steps are written from, and that they are the path's
+  pub record Parts : Type 0 where
+    pub up_known : AllBelow size (take n walks)
+    pub up_few : length (take n walks) < size
+    pub down_known : AllBelow size (take m (drop s.from_to_root walks))
+    pub down_few : n + length (take m (drop s.from_to_root walks)) < size
+    pub written : (count : ℕ) → count ≡ n + m → (out once twice : List Step) → size ≤ length out → once ≡ placed 0 (rising_steps (links counts gs) (take n walks)) out → twice ≡ placed n (falling_steps (links counts gs) (take m (drop s.from_to_root walks))) once →
+        ◌≡◌ {A = Option ℕ × List Step} (Some count, twice) (told_path (path (links counts gs) size p.from p.to) out)
 
-  pub fall_places : n + length (take m (drop s.from_to_root walks)) < size
-  fall_places = omega (arith, few_steps, falling_count (links counts gs) size p walks s f n m up_is down_is)
-
-  pub all_written : (base count : ℕ) → base ≡ n → count ≡ n + m → (out once twice : List Step) → size ≤ length out → once ≡ placed 0 (rising_steps (links counts gs) (take n walks)) out → twice ≡ placed base (falling_steps (links counts gs) (take m (drop s.from_to_root walks))) once →
-      ◌≡◌ {A = Option ℕ × List Step} (Some count, twice) (told_path (path (links counts gs) size p.from p.to) out)
-  all_written base count at is out once twice fits = steps_written (links counts gs) size p walks s f n m up_is down_is base count at is out once twice (omega (arith, few_steps))
+  pub path_parts : Parts
+  path_parts = record {
+    up_known = rising_known (links counts gs) size p walks s f n m up_is down_is (walk_below (links counts gs) None size size [] p.from within in_f);
+    up_few = omega (arith, few_steps, rising_count (links counts gs) size p walks s f n m up_is down_is);
+    down_known = falling_known (links counts gs) size p walks s f n m up_is down_is (walk_below (links counts gs) (Some (last p.from (walk_from (links counts gs) size p))) size size [] p.to within in_t);
+    down_few = omega (arith, few_steps, falling_count (links counts gs) size p walks s f n m up_is down_is);
+    written = λ count at out once twice fits. steps_written (links counts gs) size p walks s f n m up_is down_is n count refl at out once twice (omega (arith, few_steps));
+  }

@@ -52,7 +52,7 @@ impl Records<'_> {
     {
         let number = self.givens.len as u32;
         let under = expl.from() as usize;
-        let enode = self.enodes.rows[under];
+        let enode = self.enodes.filed()[under];
         let kind = kind_at(self.arguments.len as u32, expl);
         self.givens.push(Given {
             from: expl.from(),

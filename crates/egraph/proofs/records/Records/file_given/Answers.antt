@@ -1,6 +1,5 @@
-use Rattle.std.proofs.Common.{◌≡◌, ◌<◌, [], ◌∷◌, ◌++◌, get_or, sym, ap, ◌∙◌, arith}
-use Rattle.std.proofs.lemmas.List.{length-take-le, get_or-take}
-use Rattle.model.specs.Explanations.{from_of}
+use Rattle.std.proofs.Common.{◌≡◌, [], ◌∷◌, ◌++◌, get_or, sym, ap, ◌∙◌}
+use Rattle.std.proofs.lemmas.List.{length-take-le}
 use Rattle.egraph.specs.Table.{listed}
 use Rattle.egraph.specs.Records.{no_enode}
 use Rattle.egraph.specs.Filing.{enode_under}
@@ -11,13 +10,10 @@ pub returns : goal.returns
 returns c =
     let t = c.args.self.now in
     let e = c.args.expl in
-    let enodes_long = length-take-le t.enodes.len t.enodes.rows.now t.enodes.in_rows in
     let givens_long = length-take-le t.givens.len t.givens.rows.now t.givens.in_rows in
     let arguments_long = length-take-le t.arguments.len t.arguments.rows.now t.arguments.in_rows in
     let under = c.from-under.ensures in
-    let low : from_of e < t.enodes.len = omega (arith, c.requires.known, enodes_long) in
-    let at : get_or t.enodes.rows.now c.from-under.result no_enode ≡ enode_under t e =
-    ap (λ i. get_or t.enodes.rows.now i no_enode) under ∙ sym (get_or-take t.enodes.len t.enodes.rows.now (from_of e) no_enode low) in
+    let at : get_or c.filed.result.now c.from-under.result no_enode ≡ enode_under t e = (λ i. get_or (c.filed.ensures i) (under i) no_enode) in
     record {
       number = sym givens_long;
       filed = record {
