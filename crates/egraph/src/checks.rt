@@ -44,10 +44,8 @@ impl<'a, R: FrameRule> EGraph<'a, R> {
     fn check_arguments(&self, arguments: ArgPairs<'_>) -> Result<(), Fault>
         ensures { told result ≡ all_known (size_on_file self.now) (pair_ends (pairs_of arguments.entry.words.now)) }
     {
-        let mut rest = arguments;
-        while let Some((pair, behind)) = rest.split_first() {
+        for pair in arguments {
             self.check_known(pair)?;
-            rest = behind;
         }
         Ok(())
     }

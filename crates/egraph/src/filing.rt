@@ -18,10 +18,8 @@ fn push_pairs(table: &mut Table<'_, Pair, ARGUMENTS>, pairs: ArgPairs<'_>)
     ensures places { places table.new ≡ places table.old }
     ensures listed { listed table.new ≡ listed table.old ++ pairs_of pairs.entry.words.now }
 {
-    let mut rest = pairs;
-    while let Some((pair, behind)) = rest.split_first() {
+    for pair in pairs {
         table.push(pair);
-        rest = behind;
     }
 }
 

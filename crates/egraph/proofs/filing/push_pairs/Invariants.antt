@@ -1,14 +1,11 @@
 use Rattle.std.proofs.Common.{◌≡◌, ◌+◌, ◌++◌, length}
-use Rattle.model.specs.Explanations.{pairs_of}
+use Rattle.model.specs.Explanations.{pairs_of, pairs_left}
 use Rattle.egraph.specs.Table.{listed, places}
 use Rattle.egraph.proofs.filing.push_pairs.Given as goal
 
 -- what is on file and what is left are all of them
 abbrev pub invariant-loop-pair : goal.invariant-loop-pair
 invariant-loop-pair l =
-    (l.table.len + length (pairs_of l.rest.words.now) ≡ l.initial.table.len + length (pairs_of l.pairs.words.now))
+    (l.table.len + length (pairs_left l.pair-iterator) ≡ l.initial.table.len + length (pairs_of l.pairs.words.now))
     × (places l.table ≡ places l.initial.table)
-    × (listed l.table ++ pairs_of l.rest.words.now ≡ listed l.initial.table ++ pairs_of l.pairs.words.now)
-
-abbrev pub decreases-loop-pair : goal.decreases-loop-pair
-decreases-loop-pair l = length (pairs_of l.rest.words.now)
+    × (listed l.table ++ pairs_left l.pair-iterator ≡ listed l.initial.table ++ pairs_of l.pairs.words.now)
