@@ -54,8 +54,7 @@ impl<'a, R: FrameRule> EGraph<'a, R> {
         ensures { told result ≡ all_known (size_on_file self.now) (under ∷ from_of expl.entry ∷ to_of expl.entry ∷ pair_ends (args_of (kind_of expl.entry))) }
     {
         self.check_enode(under)?;
-        self.check_enode(expl.from())?;
-        self.check_enode(expl.to())?;
+        self.check_known(expl.ends())?;
         self.check_arguments(expl.arg_eqs())
     }
 

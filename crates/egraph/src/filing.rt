@@ -13,7 +13,7 @@ use crate::table::Table;
 use model::items::{ArgPairs, EqualityExpl, Pair};
 
 fn push_pairs(table: &mut Table<'_, Pair, ARGUMENTS>, pairs: ArgPairs<'_>)
-    requires { table.old.len + length (pairs_of pairs.words.now) ≤ min 131072 (places table.old) }
+    requires { table.old.len + length (pairs_of pairs.words.now) ≤ min ARGUMENTS (places table.old) }
     ensures len { table.new.len ≡ table.old.len + length (pairs_of pairs.entry.words.now) }
     ensures places { places table.new ≡ places table.old }
     ensures listed { listed table.new ≡ listed table.old ++ pairs_of pairs.entry.words.now }
@@ -25,7 +25,7 @@ fn push_pairs(table: &mut Table<'_, Pair, ARGUMENTS>, pairs: ArgPairs<'_>)
 
 // The kind of a given whose argument pairs stand from `start` on.
 fn kind_at(start: u32, expl: EqualityExpl<'_>) -> Kind
-    requires { length (args_of (kind_of expl)) ≤ 131072 }
+    requires { length (args_of (kind_of expl)) ≤ ARGUMENTS }
     ensures { result ≡ row_kind start expl.entry }
 {
     match expl {
@@ -49,12 +49,13 @@ impl Records<'_> {
         ensures filed { GivenFiled self.old expl.entry frame self.new }
     {
         let number = self.givens.len as u32;
-        let under = expl.from() as usize;
+        let Pair { from, to } = expl.ends();
+        let under = from as usize;
         let enode = self.enodes.filed()[under];
         let kind = kind_at(self.arguments.len as u32, expl);
         self.givens.push(Given {
-            from: expl.from(),
-            to: expl.to(),
+            from,
+            to,
             frame,
             kind,
             older: enode.newest,

@@ -1,8 +1,8 @@
 // The path of a pair: up one enode's root walk to the first enode that both walks share, then down the other's.
-ghost use Rattle.std.specs.Prelude.{◌≡◌, ◌+◌, ◌-◌, ◌*◌, ◌<◌, ◌≤◌, [], ◌∷◌, length, Some, None, MatchOption};
+ghost use Rattle.std.specs.Prelude.{◌≡◌, ◌+◌, ◌-◌, ◌*◌, ◌<◌, ◌≤◌, length, Some, None, MatchOption};
 ghost use Rattle.model.specs.Paths.{path};
 ghost use Rattle.model.specs.Refusals.{told};
-ghost use Rattle.model.specs.Checks.{all_known, and_then};
+ghost use Rattle.model.specs.Checks.{and_then};
 ghost use Rattle.model.specs.WalkCalls.{cleared, long_enough, pair_checks, path_checks, check_eq_call, path_call, told_path};
 ghost use Rattle.model.specs.PathLaws.{WalkLaws};
 ghost use Rattle.egraph.specs.Graph.{frames_of, links_on_file, givens_on_file, size_on_file};

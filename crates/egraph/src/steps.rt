@@ -1,6 +1,5 @@
 // The steps of a path, from the walks that it was found over.
-ghost use Rattle.std.specs.Prelude.{◌≡◌, ◌+◌, ◌<◌, ◌≤◌, if◌then◌else◌, map, length};
-ghost use Rattle.model.specs.Walks.{links};
+ghost use Rattle.std.specs.Prelude.{◌≡◌, ◌<◌, ◌≤◌, if◌then◌else◌, length};
 ghost use Rattle.model.specs.Paths.{given_of};
 ghost use Rattle.model.specs.WalkCalls.{placed};
 ghost use Rattle.egraph.specs.Graph.{links_on_file, size_on_file};

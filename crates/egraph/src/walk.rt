@@ -1,6 +1,6 @@
 // Root walks: from an enode along its links, to an enode with no link, before one met again, or to a root that is told.
 ghost use Rattle.std.specs.Prelude.{◌≡◌, ◌+◌, ◌<◌, ◌≤◌, length, replicate};
-ghost use Rattle.model.specs.Walks.{links, root_walk};
+ghost use Rattle.model.specs.Walks.{root_walk};
 ghost use Rattle.egraph.specs.Graph.{frames_of, links_on_file, givens_on_file, size_on_file};
 ghost use Rattle.model.specs.Refusals.{told};
 ghost use Rattle.model.specs.WalkCalls.{placed, told_walk, walk_checks, path_to_root};

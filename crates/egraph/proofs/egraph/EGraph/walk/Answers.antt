@@ -1,11 +1,8 @@
-use Rattle.std.proofs.Common.{◌≤◌, length, sym, refl, ◌∙◌, arith, length-set, rules}
+use Rattle.std.proofs.Common.{◌≤◌, length, sym, ◌∙◌, arith, length-set, rules}
 use Rattle.model.proofs.Links.{link_within}
 use Rattle.egraph.specs.View.{size}
-use Rattle.egraph.proofs.OnWalk.{told_root, walk_start, walk_again, walk_stops, walk_ends, walk_on}
+use Rattle.egraph.proofs.OnWalk.{told_root, walk_again, walk_stops, walk_ends, walk_on}
 use Rattle.egraph.proofs.egraph.EGraph.walk.Goals as goal
-
-pub loop-len-init : goal.loop-len-init
-loop-len-init g c = (walk_start _ c.args.root _ c.args.from c.args.out.now (length c.args.marks.now) c.fill.new.self (c.fill.ensures.after (λ y e. e)) c.requires.bytes c.requires.known, refl)
 
 pub returns-then-guard-at-ne0 : goal.returns-then-guard-at-ne0
 returns-then-guard-at-ne0 g c =

@@ -1,7 +1,6 @@
 use Rattle.std.proofs.Common.{◌+◌, ◌-◌, length, drop, arith}
 use Rattle.std.proofs.lemmas.List.{length-take-le, length-drop}
 use Rattle.egraph.specs.Graph.{frames_of, givens_on_file, size_on_file}
-use Rattle.egraph.proofs.Places.{placed_behind}
 use Rattle.egraph.proofs.WriteSteps.{path_parts}
 use Rattle.egraph.proofs.egraph.EGraph.write_steps.Goals as goal
 
@@ -21,14 +20,3 @@ write_links-requires-2 g c =
     let parts = path_parts (frames_of s).counts (givens_on_file s) (size_on_file s) s.ends_filed c.args.pair c.requires.from c.requires.to c.args.walks.now f c.requires.found n (f.from_to_root + c.falling-falling.result - f.from_to_root) (omega arith) (omega arith) in
     let behind = length-take-le (length once - n) (drop n once) (omega (arith, length-drop n once)) in
     record { known = parts.down_known; places = omega (arith, behind, c.write_links.auto.steps, parts.down_few, c.requires.places) }
-
-pub returns : goal.returns
-returns g c =
-    let s = c.args.self.now in
-    let f = c.args.found in
-    let n = c.rising-rising.result in
-    let once = c.write_links.new.steps in
-    let parts = path_parts (frames_of s).counts (givens_on_file s) (size_on_file s) s.ends_filed c.args.pair c.requires.from c.requires.to c.args.walks.now f c.requires.found n (f.from_to_root + c.falling-falling.result - f.from_to_root) (omega arith) (omega arith) in
-    let long = length-take-le n c.args.walks.now (omega (arith, c.requires.found.within)) in
-    parts.written (n + c.falling-falling.result) (omega arith) c.args.steps.now once _ c.requires.places c.write_links.ensures
-    (placed_behind n (length once - n) _ c.write_links-2.new.steps once (omega (arith, c.write_links.auto.steps, parts.up_few, c.requires.places, long)) c.write_links-2.ensures)
