@@ -8,30 +8,12 @@ use std::io::Read;
 use wordlog::bytes::words_of;
 
 // No more bytes are read; a word has four.
-const MAX_BYTES: usize = 65_536;
+const MAX_BYTES: u64 = 65_536;
 
 #[derive(Drop)]
 pub struct Log {
     pub words: Vec<u32>,
     pub ragged: bool,
-}
-
-// Fills the buffer from its front, and answers how many bytes there are: fewer than places only where the input ends.
-fn fill(input: &mut impl Read, buffer: &mut [u8]) -> io::Result<usize>
-    ensures { IfOk result (λ n. n ≤ length buffer.old) }
-{
-    let mut filled = 0;
-    for _ in 0..u64::MAX {
-        if filled >= buffer.len() {
-            break;
-        }
-        let got = input.read(&mut buffer[filled..])?;
-        if got == 0 {
-            break;
-        }
-        filled += got;
-    }
-    Ok(filled)
 }
 
 // The words that these bytes make; one to three bytes left over are in none.
@@ -53,7 +35,7 @@ fn log_of(bytes: &[u8], heap: Global) -> Result<Log, AllocError>
 }
 
 pub fn read_log(input: &mut impl Read, heap: Global) -> io::Result<Log> {
-    let mut bytes = vec![in heap; 0u8; MAX_BYTES]?;
-    let count = fill(input, &mut bytes)?;
-    Ok(log_of(&bytes[0..count], heap)?)
+    let mut bytes = Vec::new(heap);
+    input.take(MAX_BYTES).read_to_end(&mut bytes)?;
+    Ok(log_of(&bytes, heap)?)
 }

@@ -16,10 +16,11 @@ use std::{env, io};
 
 // Only the open frames count if the first argument is `live`.
 fn is_live(rt: &HostRuntime) -> io::Result<bool> {
-    match env::args(rt)?.nth(1) {
-        Some(word) => Ok(word.as_str() == "live"),
-        None => Ok(false),
-    }
+    Ok(
+        env::args(rt)?
+            .nth(1)
+            .is_some_and(|word| word.as_str() == "live"),
+    )
 }
 
 fn main(rt: HostRuntime) -> io::Result<()> {

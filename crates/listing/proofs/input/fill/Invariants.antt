@@ -1,6 +1,0 @@
--- What is filled lies within the buffer.
-use Rattle.std.proofs.Common.{◌≤◌, length}
-use Rattle.listing.proofs.input.fill.Given as goal
-
-abbrev pub invariant-loop : goal.invariant-loop
-invariant-loop g l = l.filled ≤ length l.buffer
