@@ -1,5 +1,5 @@
 -- The text of a reply, by what the calls wrote into the scratch. Assumes nothing.
-use Rattle.std.proofs.Common.{◌≡◌, ℕ, ◌+◌, ◌-◌, ◌<◌, ◌≤◌, Bool, cond, List, [], ◌++◌, length, get_or, take, drop, Some, None, Ok, Option, Result, sym, refl, ap, ◌∙◌, subst, append_assoc, zero-add, arith}
+use Rattle.std.proofs.Common.{◌≡◌, ℕ, ◌+◌, ◌-◌, ◌<◌, ◌≤◌, Bool, cond, List, [], ◌++◌, length, get_or, take, drop, Some, None, IfSome, Ok, Option, Result, sym, refl, ap, ◌∙◌, subst, append_assoc, zero-add, arith}
 use lib.Seq.{take-append_seam}
 use Rattle.std.proofs.lemmas.List.{get_or_append_left}
 use Rattle.std.proofs.lemmas.Bool.{ne_eqb}
@@ -19,7 +19,7 @@ use Rattle.egraph.proofs.TwoWalks.{walk_some, walk_few, written_part, written_en
 use Rattle.egraph.proofs.PathSteps.{path_short, below_at}
 use Rattle.lines.specs.Text.{same_text, walk_text, path_text}
 use Rattle.listing.specs.Question.{walk_line, path_line, first_walk, second_walk, answer_text}
-use Rattle.listing.specs.Answers.{steps_shown, SomeWithin}
+use Rattle.listing.specs.Answers.{steps_shown}
 use Rattle.listing.proofs.Outcomes.{passes, PathTold, path_answered}
 
 -- a walk that was answered: its length and what it tells, with its enodes in front
@@ -62,10 +62,10 @@ steps_told (Some p) out count steps h =
 
 -- and there are no more of them than enodes
 pub steps_few : (counts : ℕ → Bool) (gs : List Given) (size limit : ℕ) → WalkLaws counts gs size → EndsKnown gs size → (p : Pair) → p.from < size → p.to < size → size ≤ limit →
-    (o : Option Path) → path (links counts gs) size p.from p.to ≡ o → (out : List Step) (count : Option ℕ) (steps : List Step) → ◌≡◌ {A = Option ℕ × List Step} (count, steps) (told_path o out) → SomeWithin limit count
-steps_few counts gs size limit laws known p low_from low_to few None is out count steps h = subst (SomeWithin limit) (sym (ap (λ x. x.0) h)) tt
+    (o : Option Path) → path (links counts gs) size p.from p.to ≡ o → (out : List Step) (count : Option ℕ) (steps : List Step) → ◌≡◌ {A = Option ℕ × List Step} (count, steps) (told_path o out) → IfSome count (λ n. n ≤ limit)
+steps_few counts gs size limit laws known p low_from low_to few None is out count steps h = subst (λ o. IfSome o (λ n. n ≤ limit)) (sym (ap (λ x. x.0) h)) tt
 steps_few counts gs size limit laws known p low_from low_to few (Some q) is out count steps h =
-    subst (SomeWithin limit) (sym (ap (λ x. x.0) h)) (omega (arith, path_short counts gs size laws known p.from p.to low_from low_to q is))
+    subst (λ o. IfSome o (λ n. n ≤ limit)) (sym (ap (λ x. x.0) h)) (omega (arith, path_short counts gs size laws known p.from p.to low_from low_to q is))
 
 -- the lines of two walks and of the path
 pub answer_shown : (next : Links) (size : ℕ) (p : Pair) (first second : RootWalk) (one two : List ℕ) (root : ℕ) (count : Option ℕ) (steps out : List Step) → (p.from ≡ p.to → ⊥) →
@@ -88,7 +88,7 @@ written_behind out mid before question shown reply first same last = last ∙ (�
 -- a question that was not refused, with its first walk
 pub record Begun (next : Links) (size : ℕ) (p : Pair) (out : List Step) (count : Option ℕ) (steps : List Step) (first : RootWalk) (one : List ℕ) : Type 0 where
   pub told : PathTold next size p out count steps
-  pub few : SomeWithin 128 count
+  pub few : IfSome count (λ n. n ≤ 128)
   pub walk : Walked next size None p.from first one
 
 module _ (counts : ℕ → Bool) (gs : List Given) (size : ℕ) (ends : EndsKnown gs size) (p : Pair) (marks : List ℕ) (walks : ℕ) (out : List Step) (bytes : length marks ≡ 128) (places : walks ≡ 256) (rows : length out ≡ 128) where

@@ -7,6 +7,7 @@ mod run;
 mod scratch;
 #[cfg(test)]
 mod tests;
+mod text;
 
 use frames::every::Every;
 use frames::live::Live;

@@ -1,5 +1,19 @@
-// The tables that a question works on.
-use model::items::Step;
+// The tables that a question works on, and what an answer keeps in them.
+ghost use Rattle.std.specs.Prelude.{◌≤◌, IfSome};
+ghost use Rattle.std.proofs.Props.{props};
+
+use model::items::{RootWalk, Step};
+
+// The root walks of a question's two enodes, and how many steps its path has, if there is one. Their enodes and steps stand in the scratch.
+#[derive(Clone, Copy)]
+pub struct Walks {
+    pub first: RootWalk,
+    pub second: RootWalk,
+    pub steps: Option<usize>,
+    ghost first_stands: { first.len ≤ 128 },
+    ghost second_stands: { second.len ≤ 128 },
+    ghost steps_stand: { IfSome steps (λ n. n ≤ 128) } by { Prim.hlevel props },
+}
 
 #[derive(Drop)]
 pub struct Scratch {

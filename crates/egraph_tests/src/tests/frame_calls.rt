@@ -1,15 +1,12 @@
 // Frames of a case: their numbers, their counts, and when one is refused.
 use super::support::*;
-use egraph::egraph::EGraph;
 use frames::live::Live;
 use std::test::Fail;
 
 #[test]
 fn frames_open_and_close(rt: HostRuntime) -> Result<(), Fail> {
-    let mut enodes = [OLD_ENODE; 2];
-    let mut givens = [OLD_GIVEN; 4];
-    let mut pairs = [OLD_PAIR; 0];
-    let mut graph = EGraph::new(&mut enodes, &mut givens, &mut pairs, Live::new());
+    let mut tables = Tables::<2, 4, 0>::old();
+    let mut graph = tables.case(Live::new());
     log_enodes(&mut graph, 2)?;
     assert_eq!(rt; graph.height(), 1);
     refuses(&rt, graph.pop_frame(), 8, 0)?;
@@ -30,10 +27,8 @@ fn frames_open_and_close(rt: HostRuntime) -> Result<(), Fail> {
 
 #[test]
 fn frames_are_limited(rt: HostRuntime) -> Result<(), Fail> {
-    let mut enodes = [OLD_ENODE; 0];
-    let mut givens = [OLD_GIVEN; 0];
-    let mut pairs = [OLD_PAIR; 0];
-    let mut graph = EGraph::new(&mut enodes, &mut givens, &mut pairs, Live::new());
+    let mut tables = Tables::<0, 0, 0>::old();
+    let mut graph = tables.case(Live::new());
     for number in 1..64 {
         answers(&rt, graph.new_frame(), number)?;
     }

@@ -64,14 +64,12 @@ fn argument_pairs(rt: HostRuntime) -> Result<(), Fail> {
 // The frame's count is checked last; a rule that has counted before brings its counts with it.
 #[test]
 fn givens_of_one_frame(rt: HostRuntime) -> Result<(), Fail> {
-    let mut enodes = [OLD_ENODE; 1];
-    let mut givens = [OLD_GIVEN; 1];
-    let mut pairs = [OLD_PAIR; 0];
+    let mut tables = Tables::<1, 1, 0>::old();
     let mut rule = Every::new();
     for _ in 0..65536 {
         answers(&rt, rule.log_given(), 0)?;
     }
-    let mut graph = EGraph::new(&mut enodes, &mut givens, &mut pairs, rule);
+    let mut graph = tables.case(rule);
     log_enodes(&mut graph, 1)?;
     refuses(&rt, graph.new_given_equality(0, axiom(0, 0)), 4, 3)?;
     counts(&rt, &graph, 1, 0);

@@ -39,25 +39,19 @@ fn second_after_closing<R: FrameRule>(
 
 #[test]
 fn a_closed_frame_counts_under_every_alone(rt: HostRuntime) -> Result<(), Fail> {
-    let mut enodes = [OLD_ENODE; 3];
-    let mut givens = [OLD_GIVEN; 2];
-    let mut pairs = [OLD_PAIR; 0];
-    let mut live = EGraph::new(&mut enodes, &mut givens, &mut pairs, Live::new());
+    let mut tables = Tables::<3, 2, 0>::old();
+    let mut live = tables.case(Live::new());
     assert_eq!(rt; second_after_closing(&rt, &mut live)?, 1);
-    let mut enodes = [OLD_ENODE; 3];
-    let mut givens = [OLD_GIVEN; 2];
-    let mut pairs = [OLD_PAIR; 0];
-    let mut every = EGraph::new(&mut enodes, &mut givens, &mut pairs, Every::new());
+    let mut tables = Tables::<3, 2, 0>::old();
+    let mut every = tables.case(Every::new());
     assert_eq!(rt; second_after_closing(&rt, &mut every)?, 2);
     Ok(())
 }
 
 #[test]
 fn the_oldest_given_is_answered(rt: HostRuntime) -> Result<(), Fail> {
-    let mut enodes = [OLD_ENODE; 3];
-    let mut givens = [OLD_GIVEN; 4];
-    let mut pairs = [OLD_PAIR; 0];
-    let mut graph = EGraph::new(&mut enodes, &mut givens, &mut pairs, Live::new());
+    let mut tables = Tables::<3, 4, 0>::old();
+    let mut graph = tables.case(Live::new());
     log_enodes(&mut graph, 3)?;
     log_pairs(&mut graph, &[(1, 0), (0, 1), (0, 2), (0, 1)])?;
     answers(&rt, graph.get_given(0, 1), Some(1))?;
@@ -71,10 +65,8 @@ fn the_oldest_given_is_answered(rt: HostRuntime) -> Result<(), Fail> {
 // The newest given is the link; a closing brings back the link that it replaced.
 #[test]
 fn a_link_is_replaced(rt: HostRuntime) -> Result<(), Fail> {
-    let mut enodes = [OLD_ENODE; 4];
-    let mut givens = [OLD_GIVEN; 4];
-    let mut pairs = [OLD_PAIR; 0];
-    let mut graph = EGraph::new(&mut enodes, &mut givens, &mut pairs, Live::new());
+    let mut tables = Tables::<4, 4, 0>::old();
+    let mut graph = tables.case(Live::new());
     let mut marks = [0; 4];
     let mut path = [9; 4];
     log_enodes(&mut graph, 4)?;
@@ -109,10 +101,8 @@ fn a_link_is_replaced(rt: HostRuntime) -> Result<(), Fail> {
 // A given with both ends the same is a link to itself, whichever its kind.
 #[test]
 fn links_to_itself(rt: HostRuntime) -> Result<(), Fail> {
-    let mut enodes = [OLD_ENODE; 2];
-    let mut givens = [OLD_GIVEN; 3];
-    let mut pairs = [OLD_PAIR; 0];
-    let mut graph = EGraph::new(&mut enodes, &mut givens, &mut pairs, Live::new());
+    let mut tables = Tables::<2, 3, 0>::old();
+    let mut graph = tables.case(Live::new());
     let mut marks = [0; 2];
     let mut path = [9; 2];
     log_enodes(&mut graph, 2)?;

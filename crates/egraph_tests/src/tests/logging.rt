@@ -1,6 +1,5 @@
 // Logging: a table that is full, enodes that are not on the books, and the order of the checks.
 use super::support::*;
-use egraph::egraph::EGraph;
 use frames::live::Live;
 use model::items::{ArgPairs, EqualityExpl};
 use std::test::Fail;
@@ -15,10 +14,8 @@ fn congruence(from: u32, to: u32, words: &[u32]) -> EqualityExpl<'_> {
 
 #[test]
 fn enodes_fill_their_table(rt: HostRuntime) -> Result<(), Fail> {
-    let mut enodes = [OLD_ENODE; 2];
-    let mut givens = [OLD_GIVEN; 1];
-    let mut pairs = [OLD_PAIR; 1];
-    let mut graph = EGraph::new(&mut enodes, &mut givens, &mut pairs, Live::new());
+    let mut tables = Tables::<2, 1, 1>::old();
+    let mut graph = tables.case(Live::new());
     counts(&rt, &graph, 0, 0);
     answers(&rt, graph.new_enode(5), 0)?;
     answers(&rt, graph.new_enode(5), 1)?;
@@ -29,10 +26,8 @@ fn enodes_fill_their_table(rt: HostRuntime) -> Result<(), Fail> {
 
 #[test]
 fn givens_fill_their_table(rt: HostRuntime) -> Result<(), Fail> {
-    let mut enodes = [OLD_ENODE; 3];
-    let mut givens = [OLD_GIVEN; 2];
-    let mut pairs = [OLD_PAIR; 0];
-    let mut graph = EGraph::new(&mut enodes, &mut givens, &mut pairs, Live::new());
+    let mut tables = Tables::<3, 2, 0>::old();
+    let mut graph = tables.case(Live::new());
     log_enodes(&mut graph, 3)?;
     answers(&rt, graph.new_given_equality(0, axiom(0, 1)), 0)?;
     answers(&rt, graph.new_given_equality(0, axiom(0, 2)), 1)?;
@@ -43,10 +38,8 @@ fn givens_fill_their_table(rt: HostRuntime) -> Result<(), Fail> {
 
 #[test]
 fn arguments_fill_their_table(rt: HostRuntime) -> Result<(), Fail> {
-    let mut enodes = [OLD_ENODE; 2];
-    let mut givens = [OLD_GIVEN; 4];
-    let mut pairs = [OLD_PAIR; 2];
-    let mut graph = EGraph::new(&mut enodes, &mut givens, &mut pairs, Live::new());
+    let mut tables = Tables::<2, 4, 2>::old();
+    let mut graph = tables.case(Live::new());
     log_enodes(&mut graph, 2)?;
     refuses(
         &rt,
@@ -86,10 +79,8 @@ fn arguments_fill_their_table(rt: HostRuntime) -> Result<(), Fail> {
 // The enode it is logged under, its first end, its second end, its arguments in order; then the wrong end; then room.
 #[test]
 fn checks_are_in_order(rt: HostRuntime) -> Result<(), Fail> {
-    let mut enodes = [OLD_ENODE; 2];
-    let mut givens = [OLD_GIVEN; 0];
-    let mut pairs = [OLD_PAIR; 0];
-    let mut graph = EGraph::new(&mut enodes, &mut givens, &mut pairs, Live::new());
+    let mut tables = Tables::<2, 0, 0>::old();
+    let mut graph = tables.case(Live::new());
     log_enodes(&mut graph, 2)?;
     refuses(
         &rt,
@@ -141,10 +132,8 @@ fn checks_are_in_order(rt: HostRuntime) -> Result<(), Fail> {
 // A given is logged under its first end, whichever its kind.
 #[test]
 fn under_its_first_end(rt: HostRuntime) -> Result<(), Fail> {
-    let mut enodes = [OLD_ENODE; 3];
-    let mut givens = [OLD_GIVEN; 4];
-    let mut pairs = [OLD_PAIR; 0];
-    let mut graph = EGraph::new(&mut enodes, &mut givens, &mut pairs, Live::new());
+    let mut tables = Tables::<3, 4, 0>::old();
+    let mut graph = tables.case(Live::new());
     log_enodes(&mut graph, 3)?;
     refuses(&rt, graph.new_given_equality(1, axiom(0, 1)), 3, 1)?;
     refuses(&rt, graph.new_given_equality(2, root(1)), 3, 2)?;

@@ -1,16 +1,13 @@
 // Paths: the steps and their directions, and pairs that have none.
 use super::support::*;
-use egraph::egraph::EGraph;
 use frames::every::Every;
 use std::test::Fail;
 
 // 0→1→2 and 3→4→2, 5 apart: up two steps, then down two.
 #[test]
 fn up_and_down(rt: HostRuntime) -> Result<(), Fail> {
-    let mut enodes = [OLD_ENODE; 6];
-    let mut givens = [OLD_GIVEN; 4];
-    let mut pairs = [OLD_PAIR; 0];
-    let mut graph = EGraph::new(&mut enodes, &mut givens, &mut pairs, Every::new());
+    let mut tables = Tables::<6, 4, 0>::old();
+    let mut graph = tables.case(Every::new());
     let mut marks = [7; 6];
     let mut walks = [9; 12];
     let mut steps = [NO_STEP; 6];
@@ -31,10 +28,8 @@ fn up_and_down(rt: HostRuntime) -> Result<(), Fail> {
 
 #[test]
 fn short_paths(rt: HostRuntime) -> Result<(), Fail> {
-    let mut enodes = [OLD_ENODE; 4];
-    let mut givens = [OLD_GIVEN; 2];
-    let mut pairs = [OLD_PAIR; 0];
-    let mut graph = EGraph::new(&mut enodes, &mut givens, &mut pairs, Every::new());
+    let mut tables = Tables::<4, 2, 0>::old();
+    let mut graph = tables.case(Every::new());
     let mut marks = [0; 4];
     let mut walks = [0; 8];
     let mut steps = [NO_STEP; 4];
@@ -68,10 +63,8 @@ fn short_paths(rt: HostRuntime) -> Result<(), Fail> {
 
 #[test]
 fn pairs_are_equal(rt: HostRuntime) -> Result<(), Fail> {
-    let mut enodes = [OLD_ENODE; 5];
-    let mut givens = [OLD_GIVEN; 3];
-    let mut pairs = [OLD_PAIR; 0];
-    let mut graph = EGraph::new(&mut enodes, &mut givens, &mut pairs, Every::new());
+    let mut tables = Tables::<5, 3, 0>::old();
+    let mut graph = tables.case(Every::new());
     let mut marks = [0; 5];
     let mut walks = [0; 10];
     log_enodes(&mut graph, 5)?;
@@ -86,10 +79,8 @@ fn pairs_are_equal(rt: HostRuntime) -> Result<(), Fail> {
 // In a circle the way back is another given, and not the same one turned.
 #[test]
 fn a_path_in_a_circle(rt: HostRuntime) -> Result<(), Fail> {
-    let mut enodes = [OLD_ENODE; 2];
-    let mut givens = [OLD_GIVEN; 2];
-    let mut pairs = [OLD_PAIR; 0];
-    let mut graph = EGraph::new(&mut enodes, &mut givens, &mut pairs, Every::new());
+    let mut tables = Tables::<2, 2, 0>::old();
+    let mut graph = tables.case(Every::new());
     let mut marks = [0; 2];
     let mut walks = [0; 4];
     let mut steps = [NO_STEP; 2];

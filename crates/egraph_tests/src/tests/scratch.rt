@@ -1,15 +1,12 @@
 // Scratch and output that are too short: marks first, then walks, then steps, and only then the enodes.
 use super::support::*;
-use egraph::egraph::EGraph;
 use frames::live::Live;
 use std::test::Fail;
 
 #[test]
 fn a_walk_needs_places(rt: HostRuntime) -> Result<(), Fail> {
-    let mut enodes = [OLD_ENODE; 3];
-    let mut givens = [OLD_GIVEN; 1];
-    let mut pairs = [OLD_PAIR; 0];
-    let mut graph = EGraph::new(&mut enodes, &mut givens, &mut pairs, Live::new());
+    let mut tables = Tables::<3, 1, 0>::old();
+    let mut graph = tables.case(Live::new());
     let mut marks = [7; 3];
     let mut path = [9; 3];
     let mut few_marks = [7; 2];
@@ -51,10 +48,8 @@ fn a_walk_needs_places(rt: HostRuntime) -> Result<(), Fail> {
 
 #[test]
 fn a_comparison_needs_places(rt: HostRuntime) -> Result<(), Fail> {
-    let mut enodes = [OLD_ENODE; 3];
-    let mut givens = [OLD_GIVEN; 1];
-    let mut pairs = [OLD_PAIR; 0];
-    let mut graph = EGraph::new(&mut enodes, &mut givens, &mut pairs, Live::new());
+    let mut tables = Tables::<3, 1, 0>::old();
+    let mut graph = tables.case(Live::new());
     let mut marks = [7; 3];
     let mut walks = [9; 6];
     let mut few_marks = [7; 2];
@@ -75,10 +70,8 @@ fn a_comparison_needs_places(rt: HostRuntime) -> Result<(), Fail> {
 
 #[test]
 fn a_path_needs_places(rt: HostRuntime) -> Result<(), Fail> {
-    let mut enodes = [OLD_ENODE; 3];
-    let mut givens = [OLD_GIVEN; 1];
-    let mut pairs = [OLD_PAIR; 0];
-    let mut graph = EGraph::new(&mut enodes, &mut givens, &mut pairs, Live::new());
+    let mut tables = Tables::<3, 1, 0>::old();
+    let mut graph = tables.case(Live::new());
     let mut marks = [7; 3];
     let mut walks = [9; 6];
     let mut steps = [NO_STEP; 3];
@@ -123,10 +116,8 @@ fn a_path_needs_places(rt: HostRuntime) -> Result<(), Fail> {
 // The refusal of a question names its pair; that of a walk names none.
 #[test]
 fn a_question_names_its_pair(rt: HostRuntime) -> Result<(), Fail> {
-    let mut enodes = [OLD_ENODE; 1];
-    let mut givens = [OLD_GIVEN; 1];
-    let mut pairs = [OLD_PAIR; 0];
-    let mut graph = EGraph::new(&mut enodes, &mut givens, &mut pairs, Live::new());
+    let mut tables = Tables::<1, 1, 0>::old();
+    let mut graph = tables.case(Live::new());
     let mut marks = [7; 1];
     let mut walks = [9; 2];
     log_enodes(&mut graph, 1)?;

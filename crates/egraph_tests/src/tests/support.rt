@@ -31,6 +31,28 @@ pub const NO_STEP: Step = Step {
     forward: false,
 };
 
+// The tables that a test lends, full of such rows.
+#[derive(Drop)]
+pub struct Tables<const ENODES: usize, const GIVENS: usize, const PAIRS: usize> {
+    enodes: [ENode; ENODES],
+    givens: [Given; GIVENS],
+    pairs: [Pair; PAIRS],
+}
+
+impl<const ENODES: usize, const GIVENS: usize, const PAIRS: usize> Tables<ENODES, GIVENS, PAIRS> {
+    pub fn old() -> Self {
+        Tables {
+            enodes: [OLD_ENODE; ENODES],
+            givens: [OLD_GIVEN; GIVENS],
+            pairs: [OLD_PAIR; PAIRS],
+        }
+    }
+
+    pub fn case<R: FrameRule>(&mut self, rule: R) -> EGraph<'_, R> {
+        EGraph::new(&mut self.enodes, &mut self.givens, &mut self.pairs, rule)
+    }
+}
+
 pub fn axiom(from: u32, to: u32) -> EqualityExpl<'static> {
     EqualityExpl::Axiom { from, to }
 }

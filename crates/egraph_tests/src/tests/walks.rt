@@ -1,16 +1,13 @@
 // Root walks: circles, a root that is told, and what is written where.
 use super::support::*;
-use egraph::egraph::EGraph;
 use frames::live::Live;
 use std::test::Fail;
 
 // 3→0→1→2→0 and 4→5→4: a walk tells the enode of the circle that it comes to first.
 #[test]
 fn circles(rt: HostRuntime) -> Result<(), Fail> {
-    let mut enodes = [OLD_ENODE; 6];
-    let mut givens = [OLD_GIVEN; 6];
-    let mut pairs = [OLD_PAIR; 0];
-    let mut graph = EGraph::new(&mut enodes, &mut givens, &mut pairs, Live::new());
+    let mut tables = Tables::<6, 6, 0>::old();
+    let mut graph = tables.case(Live::new());
     let mut marks = [0; 6];
     let mut path = [9; 6];
     log_enodes(&mut graph, 6)?;
@@ -46,10 +43,8 @@ fn circles(rt: HostRuntime) -> Result<(), Fail> {
 // A circle through every enode that there is.
 #[test]
 fn one_circle(rt: HostRuntime) -> Result<(), Fail> {
-    let mut enodes = [OLD_ENODE; 3];
-    let mut givens = [OLD_GIVEN; 3];
-    let mut pairs = [OLD_PAIR; 0];
-    let mut graph = EGraph::new(&mut enodes, &mut givens, &mut pairs, Live::new());
+    let mut tables = Tables::<3, 3, 0>::old();
+    let mut graph = tables.case(Live::new());
     let mut marks = [1; 3];
     let mut path = [9; 3];
     log_enodes(&mut graph, 3)?;
@@ -67,10 +62,8 @@ fn one_circle(rt: HostRuntime) -> Result<(), Fail> {
 
 #[test]
 fn a_walk_is_told_a_root(rt: HostRuntime) -> Result<(), Fail> {
-    let mut enodes = [OLD_ENODE; 4];
-    let mut givens = [OLD_GIVEN; 3];
-    let mut pairs = [OLD_PAIR; 0];
-    let mut graph = EGraph::new(&mut enodes, &mut givens, &mut pairs, Live::new());
+    let mut tables = Tables::<4, 3, 0>::old();
+    let mut graph = tables.case(Live::new());
     let mut marks = [0; 4];
     let mut path = [9; 4];
     log_enodes(&mut graph, 4)?;
@@ -108,10 +101,8 @@ fn a_walk_is_told_a_root(rt: HostRuntime) -> Result<(), Fail> {
 // Mark bytes are cleared before a walk and after it, those behind the enodes' too.
 #[test]
 fn marks_are_cleared(rt: HostRuntime) -> Result<(), Fail> {
-    let mut enodes = [OLD_ENODE; 3];
-    let mut givens = [OLD_GIVEN; 3];
-    let mut pairs = [OLD_PAIR; 0];
-    let mut graph = EGraph::new(&mut enodes, &mut givens, &mut pairs, Live::new());
+    let mut tables = Tables::<3, 3, 0>::old();
+    let mut graph = tables.case(Live::new());
     let mut marks = [7; 5];
     let mut walks = [9; 6];
     let mut steps = [NO_STEP; 3];

@@ -3,7 +3,7 @@ use Rattle.std.proofs.Common.{◌≡◌, length, arith}
 use Rattle.std.proofs.lemmas.List.{length-map, length-take-le}
 use Rattle.egraph.specs.Table.{listed}
 use Rattle.egraph.specs.View.{given_list}
-use Rattle.listing.proofs.run.show_totals.Goals as goal
+use Rattle.listing.proofs.text.Listing.show_totals.Goals as goal
 
 pub overflow_cast-givens : goal.overflow_cast-givens
 overflow_cast-givens g c =

@@ -1,7 +1,7 @@
 -- Each turn runs the next call of the log, which lies further on.
-use Rattle.std.proofs.Common.{◌++◌, length, Some, None, string_bytes, ap, ◌∙◌, arith}
+use Rattle.std.proofs.Common.{◌++◌, length, Some, None, ap, ◌∙◌, arith}
 use Rattle.std.proofs.lemmas.Result.{IfOk-weaker}
-use Rattle.model.specs.Refusals.{refusal_of}
+use Rattle.model.specs.Refusals.{number_of, refusal_of}
 use Rattle.egraph.specs.View.{case_of}
 use Rattle.wordlog.specs.Calls.{call_of}
 use Rattle.wordlog.specs.Log.{next, moved}
@@ -9,7 +9,7 @@ use Rattle.lines.specs.Text.{refused_text}
 use Rattle.listing.specs.Runs.{call_text}
 use Rattle.listing.proofs.Calls.{moved_on, next_further, read_as}
 use Rattle.listing.proofs.Listings.{called, ended, unreadable}
-use Rattle.listing.proofs.run.run_calls.Goals as goal
+use Rattle.listing.proofs.text.Listing.run_calls.Goals as goal
 
 pub calls-smaller : goal.calls-smaller
 calls-smaller g c =
@@ -28,10 +28,10 @@ calls-preserved g c =
     let k = case_of (g.R.FrameRule.means t.rule) t.records in
     let s = c.next_call.new.self in
     let read = read_as c.in-Ok.next (Some c.in-Some.call) s.at (moved r.at (next r.log.words.now r.log.ragged r.at)) c.in-Some.is c.in-Ok.ensures.outcome in
-    called g.R.FrameRule.limit c.args.words.now c.args.ragged _ _ k (string_bytes c.calls.out) r.log.words.now r.log.ragged r.at c.calls.invariant
-    (call_of c.in-Some.call) s.at (case_of (g.R.FrameRule.means u.rule) u.records) (string_bytes c.run_call.new.out) s.log.words.now s.log.ragged
+    called g.R.FrameRule.limit c.args.words.now c.args.ragged _ _ k c.calls.self r.log.words.now r.log.ragged r.at c.calls.invariant
+    (call_of c.in-Some.call) s.at (case_of (g.R.FrameRule.means u.rule) u.records) c.run_call.new.self s.log.words.now s.log.ragged
     c.in-Ok.ensures.words c.in-Ok.ensures.ragged read c.in_ok-run_call.ensures.case
-    (c.in_ok-run_call.ensures.text ∙ ap (λ p. string_bytes c.calls.out ++ call_text g.R.FrameRule.limit p k (call_of c.in-Some.call)) c.place-place.ensures)
+    (c.in_ok-run_call.ensures.text ∙ ap (λ p. c.calls.self ++ call_text g.R.FrameRule.limit p k (call_of c.in-Some.call)) c.place-place.ensures)
 
 pub returns-in_default : goal.returns-in_default
 returns-in_default g c =
@@ -44,7 +44,7 @@ pub returns-in-Err : goal.returns-in-Err
 returns-in-Err g c =
     let r = c.calls.reader in
     let f = c.in-Err.fault in
-    IfOk-weaker c.refused_line.result _ _
-    (λ x e. unreadable g.R.FrameRule.limit c.args.words.now c.args.ragged _ _ _ (string_bytes c.calls.out) r.log.words.now r.log.ragged r.at c.calls.invariant (refusal_of f) c.next_call.new.self.at _ c.in-Err.ensures.outcome
-    (e ∙ (λ i. string_bytes c.calls.out ++ refused_text (c.number.ensures i) (c.place-place.ensures i))))
-    c.refused_line.ensures
+    IfOk-weaker c.show_fault.result _ _
+    (λ x e. unreadable g.R.FrameRule.limit c.args.words.now c.args.ragged _ _ _ c.calls.self r.log.words.now r.log.ragged r.at c.calls.invariant (refusal_of f) c.next_call.new.self.at _ c.in-Err.ensures.outcome
+    (e ∙ ap (λ p. c.calls.self ++ refused_text (number_of f.cause) p) c.place-place.ensures))
+    c.show_fault.ensures

@@ -1,0 +1,69 @@
+// A listing as it is written: its text so far, and the tables that its questions work on.
+ghost use Rattle.std.specs.Prelude.{◌≡◌, ℕ, List, [], ◌++◌, length, string_bytes, OnOk};
+ghost use Rattle.model.specs.Refusals.{number_of, told};
+ghost use Rattle.egraph.specs.View.{given_list, size};
+ghost use Rattle.lines.specs.Text.{refused_text, totals_text};
+ghost use Rattle.listing.specs.Runs.{refusal_text};
+
+use crate::scratch::Scratch;
+use egraph::egraph::EGraph;
+use frames::rule::FrameRule;
+use lines::log::{refused_line, totals_line};
+use model::error::Fault;
+use std::alloc::{AllocError, Global};
+use std::marker::Model;
+
+#[derive(Drop)]
+pub struct Listing {
+    pub(crate) scratch: Scratch,
+    pub(crate) out: String,
+}
+
+impl Model for Listing {
+    ghost Value = { List ℕ };
+
+    ghost view = { λ l. string_bytes l.out };
+}
+
+impl Listing {
+    pub fn new(heap: Global) -> Listing
+        ensures { result ≡ [] }
+    {
+        Listing {
+            scratch: Scratch::new(),
+            out: String::new(heap),
+        }
+    }
+
+    pub fn show_fault(&mut self, fault: Fault, place: u32) -> Result<(), AllocError>
+        ensures { OnOk result (self.new ≡ self.old ++ refused_text (number_of fault.cause) place) }
+    {
+        refused_line(&mut self.out, fault.cause.number(), place)
+    }
+
+    // A call that is not refused prints nothing.
+    pub fn show_refusal(&mut self, answer: Result<u32, Fault>, place: u32) -> Result<(), AllocError>
+        ensures { OnOk result (self.new ≡ self.old ++ refusal_text place (told answer)) }
+    {
+        match answer {
+            Ok(_) => Ok(()),
+            Err(fault) => self.show_fault(fault, place),
+        }
+    }
+
+    // How much is on the books.
+    pub fn show_totals<R: FrameRule>(&mut self, graph: &EGraph<'_, R>) -> Result<(), AllocError>
+        ensures { OnOk result (self.new ≡ self.old ++ totals_text (size graph.now.records) (length (given_list graph.now.records)) (length (R.FrameRule.means graph.now.rule).opened)) }
+    {
+        let enodes = graph.enode_count() as u32;
+        let givens = graph.given_count() as u32;
+        totals_line(&mut self.out, enodes, givens, graph.height())
+    }
+
+    pub fn into_text(self) -> String
+        ensures { string_bytes result ≡ self }
+    {
+        let Listing { scratch: _, out } = self;
+        out
+    }
+}
