@@ -6,14 +6,28 @@ use std::alloc::{AllocError, Global};
 use std::io;
 use std::io::Read;
 use wordlog::bytes::words_of;
+use wordlog::reader::Log;
 
 // No more bytes are read; a word has four.
 const MAX_BYTES: u64 = 65_536;
 
+// A log that owns its words.
 #[derive(Drop)]
-pub struct Log {
-    pub words: Vec<u32>,
-    pub ragged: bool,
+pub struct Input {
+    words: Vec<u32>,
+    ragged: bool,
+}
+
+impl Input {
+    pub fn log(&self) -> Log<'_>
+        ensures words { result.words.now ≡ self.now.words.items }
+        ensures ragged { result.ragged ≡ self.now.ragged }
+    {
+        Log {
+            words: &self.words,
+            ragged: self.ragged,
+        }
+    }
 }
 
 // The words that these bytes make; one to three bytes left over are in none.
@@ -25,17 +39,17 @@ fn whole_words(bytes: &[u8], heap: Global) -> Result<Vec<u32>, AllocError>
     Ok(words)
 }
 
-fn log_of(bytes: &[u8], heap: Global) -> Result<Log, AllocError>
-    ensures { IfOk result (λ log. (log.words.items ≡ words_in bytes.now) × (log.ragged ≡ not (length bytes.now % 4 == 0))) }
+fn input_of(bytes: &[u8], heap: Global) -> Result<Input, AllocError>
+    ensures { IfOk result (λ input. (input.words.items ≡ words_in bytes.now) × (input.ragged ≡ not (length bytes.now % 4 == 0))) }
 {
-    Ok(Log {
+    Ok(Input {
         words: whole_words(bytes, heap)?,
         ragged: bytes.len() % 4 != 0,
     })
 }
 
-pub fn read_log(input: &mut impl Read, heap: Global) -> io::Result<Log> {
+pub fn read_log(input: &mut impl Read, heap: Global) -> io::Result<Input> {
     let mut bytes = Vec::new(heap);
     input.take(MAX_BYTES).read_to_end(&mut bytes)?;
-    Ok(log_of(&bytes, heap)?)
+    Ok(input_of(&bytes, heap)?)
 }

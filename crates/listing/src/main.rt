@@ -25,11 +25,11 @@ fn is_live(rt: &HostRuntime) -> io::Result<bool> {
 }
 
 fn main(rt: HostRuntime) -> io::Result<()> {
-    let log = read_log(&mut rt.stdin(), rt.alloc())?;
+    let input = read_log(&mut rt.stdin(), rt.alloc())?;
     let text = if is_live(&rt)? {
-        run(Live::new(), &log.words, log.ragged, rt.alloc())?
+        run(Live::new(), input.log(), rt.alloc())?
     } else {
-        run(Every::new(), &log.words, log.ragged, rt.alloc())?
+        run(Every::new(), input.log(), rt.alloc())?
     };
     rt.print(text.as_str())
 }

@@ -54,12 +54,11 @@ impl Listing {
     fn run_calls<R: FrameRule>(
         &mut self,
         graph: &mut EGraph<'_, R>,
-        words: &[u32],
-        ragged: bool,
+        log: Log<'_>,
     ) -> Result<(), AllocError>
-        ensures { OnOk result (Adds R.FrameRule.limit words.now ragged (case_of (R.FrameRule.means graph.old.rule) graph.old.records) (case_of (R.FrameRule.means graph.new.rule) graph.new.records) self.old self.new) }
+        ensures { OnOk result (Adds R.FrameRule.limit log.entry.words.now log.entry.ragged (case_of (R.FrameRule.means graph.old.rule) graph.old.records) (case_of (R.FrameRule.means graph.new.rule) graph.new.records) self.old self.new) }
     {
-        let mut reader = Reader::new(Log { words, ragged });
+        let mut reader = Reader::new(log);
         'calls: loop {
             let place = reader.place();
             let next = match reader.next_call() {
@@ -75,20 +74,15 @@ impl Listing {
 }
 
 // The text that the log prints under a frame rule.
-pub fn run<R: FrameRule + Drop>(
-    rule: R,
-    words: &[u32],
-    ragged: bool,
-    heap: Global,
-) -> Result<String, AllocError>
-    ensures { IfOk result (λ text. Listed R.FrameRule.limit words.now ragged (R.FrameRule.means rule) (string_bytes text)) }
+pub fn run<R: FrameRule + Drop>(rule: R, log: Log<'_>, heap: Global) -> Result<String, AllocError>
+    ensures { IfOk result (λ text. Listed R.FrameRule.limit log.entry.words.now log.entry.ragged (R.FrameRule.means rule) (string_bytes text)) }
 {
     let mut enodes = [NO_ENODE; 128];
     let mut givens = [NO_GIVEN; 128];
     let mut arguments = [Pair::default(); 512];
     let mut graph = EGraph::new(&mut enodes, &mut givens, &mut arguments, rule);
     let mut listing = Listing::new(heap);
-    listing.run_calls(&mut graph, words, ragged)?;
+    listing.run_calls(&mut graph, log)?;
     listing.show_totals(&graph)?;
     Ok(listing.into_text())
 }

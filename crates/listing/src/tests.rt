@@ -2,9 +2,10 @@
 use crate::run::run;
 use frames::every::Every;
 use frames::live::Live;
-use std::alloc::Global;
+use frames::rule::FrameRule;
 use std::process::Abort;
 use std::test::Fail;
+use wordlog::reader::Log;
 
 const ENODE: u32 = 0x1000_0000;
 
@@ -21,14 +22,18 @@ const CLOSE: u32 = 0x4000_0000;
 
 const ASK: u32 = 0x5000_0000;
 
-fn lists(rt: &impl Abort, heap: Global, words: &[u32], expected: &str) -> Result<(), Fail> {
-    let text = run(Every::new(), words, false, heap)?;
-    assert_eq!(rt; text.as_str(), expected);
-    Ok(())
-}
-
-fn lists_live(rt: &impl Abort, heap: Global, words: &[u32], expected: &str) -> Result<(), Fail> {
-    let text = run(Live::new(), words, false, heap)?;
+// What a log with no bytes left over prints.
+fn lists<R: FrameRule + Drop>(
+    rt: &(impl Abort + AllocGlobal),
+    rule: R,
+    words: &[u32],
+    expected: &str,
+) -> Result<(), Fail> {
+    let log = Log {
+        words,
+        ragged: false,
+    };
+    let text = run(rule, log, rt.alloc())?;
     assert_eq!(rt; text.as_str(), expected);
     Ok(())
 }
@@ -42,7 +47,7 @@ const REPLACED: [u32; 20] = [
 fn closed_frame_counts(rt: HostRuntime) -> Result<(), Fail> {
     lists(
         &rt,
-        rt.alloc(),
+        Every::new(),
         &REPLACED,
         "ask 0 2\nwalk 0 2\nwalk 2 tells 2\npath +g1\nask 0 1\nwalk 0 2\nwalk 1\nno path\nask 0 2\nwalk 0 2\nwalk 2 tells 2\npath +g1\nenodes 3 givens 2 frames 1\n",
     )
@@ -50,9 +55,9 @@ fn closed_frame_counts(rt: HostRuntime) -> Result<(), Fail> {
 
 #[test]
 fn closed_frame_leaves(rt: HostRuntime) -> Result<(), Fail> {
-    lists_live(
+    lists(
         &rt,
-        rt.alloc(),
+        Live::new(),
         &REPLACED,
         "ask 0 2\nwalk 0 2\nwalk 2 tells 2\npath +g1\nask 0 1\nwalk 0 1\nwalk 1 tells 1\npath +g0\nask 0 2\nwalk 0 1\nwalk 2\nno path\nenodes 3 givens 2 frames 1\n",
     )
@@ -62,13 +67,13 @@ fn closed_frame_leaves(rt: HostRuntime) -> Result<(), Fail> {
 fn circles_and_roots(rt: HostRuntime) -> Result<(), Fail> {
     lists(
         &rt,
-        rt.alloc(),
+        Every::new(),
         &[ENODE, ENODE, AXIOM, 0, 1, AXIOM, 1, 0, ASK, 0, 1, ASK, 1, 0],
         "ask 0 1\nwalk 0 1 tells 0\nwalk 1 tells 1\npath +g0\nask 1 0\nwalk 1 0 tells 1\nwalk 0 tells 0\npath +g1\nenodes 2 givens 2 frames 1\n",
     )?;
     lists(
         &rt,
-        rt.alloc(),
+        Every::new(),
         &[
             ENODE, ENODE, AXIOM, 0, 0, ROOT, 1, ASK, 0, 1, AXIOM, 0, 1, ASK, 1, 0,
         ],
@@ -76,7 +81,7 @@ fn circles_and_roots(rt: HostRuntime) -> Result<(), Fail> {
     )?;
     lists(
         &rt,
-        rt.alloc(),
+        Every::new(),
         &[
             ENODE, ENODE, ENODE, AXIOM, 0, 2, AXIOM, 1, 2, ASK, 0, 1, AXIOM, 1, 0, ASK, 2, 1,
         ],
@@ -88,13 +93,13 @@ fn circles_and_roots(rt: HostRuntime) -> Result<(), Fail> {
 fn refused_and_on(rt: HostRuntime) -> Result<(), Fail> {
     lists(
         &rt,
-        rt.alloc(),
+        Every::new(),
         &[ENODE, ASK, 0, 1, ASK, 1, 0, ASK, 1, 1, ASK, 0, 0],
         "ask 0 1\nrefused 1 at 1\nask 1 0\nrefused 1 at 4\nask 1 1\nrefused 1 at 7\nask 0 0\nsame 0\nenodes 1 givens 0 frames 1\n",
     )?;
     lists(
         &rt,
-        rt.alloc(),
+        Every::new(),
         &[
             ENODE,
             AXIOM,
@@ -115,11 +120,18 @@ fn refused_and_on(rt: HostRuntime) -> Result<(), Fail> {
     )?;
     lists(
         &rt,
-        rt.alloc(),
+        Every::new(),
         &[ENODE, ASK, 0, 0, 7, ENODE],
         "ask 0 0\nsame 0\nrefused 10 at 4\nenodes 1 givens 0 frames 1\n",
     )?;
-    let ragged = run(Every::new(), &[ENODE], true, rt.alloc())?;
+    let ragged = run(
+        Every::new(),
+        Log {
+            words: &[ENODE],
+            ragged: true,
+        },
+        rt.alloc(),
+    )?;
     assert_eq!(rt;
         ragged.as_str(),
         "refused 10 at 1\nenodes 1 givens 0 frames 1\n"
@@ -132,14 +144,14 @@ fn full_tables(rt: HostRuntime) -> Result<(), Fail> {
     let enodes = vec![in rt.alloc(); ENODE; 129]?;
     lists(
         &rt,
-        rt.alloc(),
+        Every::new(),
         &enodes,
         "refused 4 at 128\nenodes 128 givens 0 frames 1\n",
     )?;
     let openings = vec![in rt.alloc(); OPEN; 64]?;
     lists(
         &rt,
-        rt.alloc(),
+        Every::new(),
         &openings,
         "refused 7 at 63\nenodes 0 givens 0 frames 64\n",
     )?;
@@ -149,7 +161,7 @@ fn full_tables(rt: HostRuntime) -> Result<(), Fail> {
     }
     lists(
         &rt,
-        rt.alloc(),
+        Every::new(),
         &givens,
         "refused 4 at 257\nenodes 1 givens 128 frames 1\n",
     )?;
@@ -158,7 +170,7 @@ fn full_tables(rt: HostRuntime) -> Result<(), Fail> {
     arguments.extend_from_slice(&[CONGRUENCE + 2, 0, 0, 0, 0])?;
     lists(
         &rt,
-        rt.alloc(),
+        Every::new(),
         &arguments,
         "refused 4 at 1028\nenodes 1 givens 1 frames 1\n",
     )
@@ -171,8 +183,15 @@ fn long_logs(rt: HostRuntime) -> Result<(), Fail> {
     for _ in 0..8192 {
         words.extend_from_slice(&[OPEN, CLOSE])?;
     }
-    let text = run(Every::new(), &words, true, rt.alloc())?;
+    let text = run(
+        Every::new(),
+        Log {
+            words: &words,
+            ragged: true,
+        },
+        rt.alloc(),
+    )?;
     assert_eq!(rt; text.as_str(), "enodes 0 givens 0 frames 1\n");
     words.push(0)?;
-    lists(&rt, rt.alloc(), &words, "enodes 0 givens 0 frames 1\n")
+    lists(&rt, Every::new(), &words, "enodes 0 givens 0 frames 1\n")
 }

@@ -28,7 +28,7 @@ calls-preserved g c =
     let k = case_of (g.R.FrameRule.means t.rule) t.records in
     let s = c.next_call.new.self in
     let read = read_as c.in-Ok.next (Some c.in-Some.call) s.at (moved r.at (next r.log.words.now r.log.ragged r.at)) c.in-Some.is c.in-Ok.ensures.outcome in
-    called g.R.FrameRule.limit c.args.words.now c.args.ragged _ _ k c.calls.self r.log.words.now r.log.ragged r.at c.calls.invariant
+    called g.R.FrameRule.limit c.args.log.words.now c.args.log.ragged _ _ k c.calls.self r.log.words.now r.log.ragged r.at c.calls.invariant
     (call_of c.in-Some.call) s.at (case_of (g.R.FrameRule.means u.rule) u.records) c.run_call.new.self s.log.words.now s.log.ragged
     c.in-Ok.ensures.words c.in-Ok.ensures.ragged read c.in_ok-run_call.ensures.case
     (c.in_ok-run_call.ensures.text ∙ ap (λ p. c.calls.self ++ call_text g.R.FrameRule.limit p k (call_of c.in-Some.call)) c.place-place.ensures)
@@ -38,13 +38,13 @@ returns-in_default g c =
     let r = c.calls.reader in
     let s = c.next_call.new.self in
     let read = read_as c.in-Ok.next None s.at (moved r.at (next r.log.words.now r.log.ragged r.at)) c.in_default.is c.in-Ok.ensures.outcome in
-    ended g.R.FrameRule.limit c.args.words.now c.args.ragged _ _ _ _ r.log.words.now r.log.ragged r.at c.calls.invariant s.at read
+    ended g.R.FrameRule.limit c.args.log.words.now c.args.log.ragged _ _ _ _ r.log.words.now r.log.ragged r.at c.calls.invariant s.at read
 
 pub returns-in-Err : goal.returns-in-Err
 returns-in-Err g c =
     let r = c.calls.reader in
     let f = c.in-Err.fault in
     IfOk-weaker c.show_fault.result _ _
-    (λ x e. unreadable g.R.FrameRule.limit c.args.words.now c.args.ragged _ _ _ c.calls.self r.log.words.now r.log.ragged r.at c.calls.invariant (refusal_of f) c.next_call.new.self.at _ c.in-Err.ensures.outcome
+    (λ x e. unreadable g.R.FrameRule.limit c.args.log.words.now c.args.log.ragged _ _ _ c.calls.self r.log.words.now r.log.ragged r.at c.calls.invariant (refusal_of f) c.next_call.new.self.at _ c.in-Err.ensures.outcome
     (e ∙ ap (λ p. c.calls.self ++ refused_text (number_of f.cause) p) c.place-place.ensures))
     c.show_fault.ensures
