@@ -8,7 +8,7 @@ use egraph::enode::ENode;
 use egraph::equality::{Given, Kind};
 use frames::live::Live;
 use frames::rule::FrameRule;
-use grown::{grow, leaf};
+use grown::Forest;
 use model::items::Pair;
 use std::alloc::Global;
 use std::time::Instant;
@@ -33,54 +33,53 @@ fn number(rt: &HostRuntime, place: usize, otherwise: u32) -> io::Result<u32> {
     let Some(word) = env::args(rt)?.nth(place) else {
         return Ok(otherwise);
     };
-    match word.as_str().parse::<u32>() {
-        Ok(n) => Ok(n),
-        Err(_) => Ok(otherwise),
-    }
+    Ok(word.as_str().parse().unwrap_or(otherwise))
 }
 
 // How many enodes so many walks meet.
 fn walk_all<R: FrameRule>(
     graph: &EGraph<'_, R>,
-    size: u32,
+    forest: Forest,
     walks: u32,
     marks: &mut [u8],
     path: &mut [u32],
-) -> u64 {
-    let mut met: u64 = 0;
-    for i in 0..walks {
-        if let Ok(walk) = graph.path_to_root(leaf(size, i), None, marks, path) {
-            met = met.saturating_add(walk.len as u64);
-        }
-    }
-    met
+) -> usize {
+    (0..walks)
+        .filter_map(|i| graph.path_to_root(forest.leaf(i), None, marks, path).ok())
+        .fold(0usize, |met, walk| met.saturating_add(walk.len))
 }
 
 // Clears the mark bytes once for each walk, which itself does so twice.
-fn clear_all(size: u32, walks: u32, marks: &mut [u8]) {
+fn clear_all(forest: Forest, walks: u32, marks: &mut [u8]) {
     for i in 0..walks {
         marks.fill(0);
-        let at = leaf(size, i) as usize;
-        if at < marks.len() {
-            marks[at] = 1;
+        if let Some(mark) = marks.get_mut(forest.leaf(i) as usize) {
+            *mark = 1;
         }
     }
 }
 
-fn measure(rt: &HostRuntime, size: u32, walks: u32, passed: u32, heap: Global) -> io::Result<()> {
+fn measure(
+    rt: &HostRuntime,
+    forest: Forest,
+    walks: u32,
+    passed: u32,
+    heap: Global,
+) -> io::Result<()> {
+    let size = forest.size;
     let n = size as usize;
     let mut enodes = vec![in heap; NO_ENODE; n]?;
     let mut givens = vec![in heap; NO_GIVEN; 65536]?;
-    let mut arguments = [Pair { from: 0, to: 0 }; 1];
+    let mut arguments = [Pair::default(); 1];
     let mut graph = EGraph::new(&mut enodes, &mut givens, &mut arguments, Live::new());
-    let refused = grow(&mut graph, size, passed);
+    let refused = forest.grow(&mut graph, passed);
     let mut marks = vec![in heap; 0u8; n]?;
     let mut path = vec![in heap; 0u32; n]?;
     let start = Instant::now(rt)?;
-    let met = walk_all(&graph, size, walks, &mut marks, &mut path);
+    let met = walk_all(&graph, forest, walks, &mut marks, &mut path);
     let walked = start.elapsed(rt)?;
     let again = Instant::now(rt)?;
-    clear_all(size, walks, &mut marks);
+    clear_all(forest, walks, &mut marks);
     let cleared = again.elapsed(rt)?;
     println!(rt; "enodes {size} passed {passed} refused {refused} walks {walks} met {met}")?;
     let (walked, cleared) = (walked.as_micros(), cleared.as_micros());
@@ -93,5 +92,5 @@ fn main(rt: HostRuntime) -> io::Result<()> {
     let size = number(&rt, 1, 1024)?.min(65536);
     let walks = number(&rt, 2, 1000)?;
     let passed = number(&rt, 3, 0)?.min(64);
-    measure(&rt, size, walks, passed, rt.alloc())
+    measure(&rt, Forest { size }, walks, passed, rt.alloc())
 }
