@@ -1,6 +1,6 @@
 // Answers a question: the root walks of its two enodes, and the path between them.
 ghost use Rattle.std.specs.Prelude.{◌≡◌, ℕ, ◌≤◌, ◌++◌, string_bytes, OnOk};
-ghost use Rattle.egraph.specs.View.{links_in, size};
+ghost use Rattle.egraph.specs.Graph.{links_on_file, size_on_file};
 ghost use Rattle.listing.specs.Question.{reply_text, question_text};
 ghost use Rattle.listing.specs.Answers.{shown, reply_shown};
 
@@ -20,7 +20,7 @@ impl Scratch {
         graph: &EGraph<'_, R>,
         pair: Pair,
     ) -> Result<Option<Walks>, Fault>
-        ensures { (place : ℕ) → reply_shown pair self.new place result ≡ reply_text (links_in (R.FrameRule.means graph.now.rule) graph.now.records) (size graph.now.records) pair place }
+        ensures { (place : ℕ) → reply_shown pair self.new place result ≡ reply_text (links_on_file graph.now) (size_on_file graph.now) pair place }
     {
         let steps = graph.path(
             pair.from,
@@ -73,7 +73,7 @@ impl Listing {
         pair: Pair,
         place: u32,
     ) -> Result<(), AllocError>
-        ensures { OnOk result (self.new ≡ self.old ++ question_text (links_in (R.FrameRule.means graph.now.rule) graph.now.records) (size graph.now.records) pair place) }
+        ensures { OnOk result (self.new ≡ self.old ++ question_text (links_on_file graph.now) (size_on_file graph.now) pair place) }
     {
         ask_line(&mut self.out, pair.from, pair.to)?;
         match self.scratch.find(graph, pair) {

@@ -1,32 +1,18 @@
 // Runs the calls of a log on a case of its own.
 ghost use Rattle.std.specs.Prelude.{◌≡◌, ◌++◌, IfOk, string_bytes, OnOk};
-ghost use Rattle.egraph.specs.View.{case_of};
+ghost use Rattle.egraph.specs.Graph.{case_on_file};
 ghost use Rattle.wordlog.specs.Calls.{call_of};
 ghost use Rattle.listing.specs.Runs.{call_text, After, Adds, Listed};
 
 use crate::text::Listing;
 use egraph::egraph::EGraph;
 use egraph::enode::ENode;
-use egraph::equality::{Given, Kind};
+use egraph::equality::Given;
 use frames::rule::FrameRule;
 use model::items::Pair;
 use std::alloc::{AllocError, Global};
 use wordlog::call::Call;
 use wordlog::reader::{Log, Reader};
-
-const NO_ENODE: ENode = ENode {
-    owner: 0,
-    frame: 0,
-    newest: None,
-};
-
-const NO_GIVEN: Given = Given {
-    from: 0,
-    to: 0,
-    frame: 0,
-    kind: Kind::Root,
-    older: None,
-};
 
 impl Listing {
     // Questions print their answers, other calls nothing unless they are refused.
@@ -36,8 +22,8 @@ impl Listing {
         call: Call<'_>,
         place: u32,
     ) -> Result<(), AllocError>
-        ensures text { OnOk result (self.new ≡ self.old ++ call_text R.FrameRule.limit place (case_of (R.FrameRule.means graph.old.rule) graph.old.records) (call_of call.entry)) }
-        ensures case { After R.FrameRule.limit (case_of (R.FrameRule.means graph.old.rule) graph.old.records) (call_of call.entry) (case_of (R.FrameRule.means graph.new.rule) graph.new.records) }
+        ensures text { OnOk result (self.new ≡ self.old ++ call_text R.FrameRule.limit place (case_on_file graph.old) (call_of call.entry)) }
+        ensures case { After R.FrameRule.limit (case_on_file graph.old) (call_of call.entry) (case_on_file graph.new) }
     {
         match call {
             Call::Enode { owner } => self.show_refusal(graph.new_enode(owner), place),
@@ -56,7 +42,7 @@ impl Listing {
         graph: &mut EGraph<'_, R>,
         log: Log<'_>,
     ) -> Result<(), AllocError>
-        ensures { OnOk result (Adds R.FrameRule.limit log.entry.words.now log.entry.ragged (case_of (R.FrameRule.means graph.old.rule) graph.old.records) (case_of (R.FrameRule.means graph.new.rule) graph.new.records) self.old self.new) }
+        ensures { OnOk result (Adds R.FrameRule.limit log.entry.words.now log.entry.ragged (case_on_file graph.old) (case_on_file graph.new) self.old self.new) }
     {
         let mut reader = Reader::new(log);
         'calls: loop {
@@ -77,8 +63,8 @@ impl Listing {
 pub fn run<R: FrameRule + Drop>(rule: R, log: Log<'_>, heap: Global) -> Result<String, AllocError>
     ensures { IfOk result (λ text. Listed R.FrameRule.limit log.entry.words.now log.entry.ragged (R.FrameRule.means rule) (string_bytes text)) }
 {
-    let mut enodes = [NO_ENODE; 128];
-    let mut givens = [NO_GIVEN; 128];
+    let mut enodes = [ENode::default(); 128];
+    let mut givens = [Given::default(); 128];
     let mut arguments = [Pair::default(); 512];
     let mut graph = EGraph::new(&mut enodes, &mut givens, &mut arguments, rule);
     let mut listing = Listing::new(heap);

@@ -31,10 +31,7 @@ impl Scratch {
             walks: [0; 256],
             first: [0; 128],
             second: [0; 128],
-            steps: [Step {
-                given: 0,
-                forward: true,
-            }; 128],
+            steps: [Step::default(); 128],
         }
     }
 }

@@ -1,7 +1,7 @@
 // A listing as it is written: its text so far, and the tables that its questions work on.
 ghost use Rattle.std.specs.Prelude.{◌≡◌, ℕ, List, [], ◌++◌, length, string_bytes, OnOk};
 ghost use Rattle.model.specs.Refusals.{number_of, told};
-ghost use Rattle.egraph.specs.View.{given_list, size};
+ghost use Rattle.egraph.specs.Graph.{frames_of, givens_on_file, size_on_file};
 ghost use Rattle.lines.specs.Text.{refused_text, totals_text};
 ghost use Rattle.listing.specs.Runs.{refusal_text};
 
@@ -53,7 +53,7 @@ impl Listing {
 
     // How much is on the books.
     pub fn show_totals<R: FrameRule>(&mut self, graph: &EGraph<'_, R>) -> Result<(), AllocError>
-        ensures { OnOk result (self.new ≡ self.old ++ totals_text (size graph.now.records) (length (given_list graph.now.records)) (length (R.FrameRule.means graph.now.rule).opened)) }
+        ensures { OnOk result (self.new ≡ self.old ++ totals_text (size_on_file graph.now) (length (givens_on_file graph.now)) (length (frames_of graph.now).opened)) }
     {
         let enodes = graph.enode_count() as u32;
         let givens = graph.given_count() as u32;

@@ -5,7 +5,7 @@ mod grown;
 
 use egraph::egraph::EGraph;
 use egraph::enode::ENode;
-use egraph::equality::{Given, Kind};
+use egraph::equality::Given;
 use frames::live::Live;
 use frames::rule::FrameRule;
 use grown::Forest;
@@ -13,20 +13,6 @@ use model::items::Pair;
 use std::alloc::Global;
 use std::time::Instant;
 use std::{env, io};
-
-const NO_ENODE: ENode = ENode {
-    owner: 0,
-    frame: 0,
-    newest: None,
-};
-
-const NO_GIVEN: Given = Given {
-    from: 0,
-    to: 0,
-    frame: 0,
-    kind: Kind::Root,
-    older: None,
-};
 
 // An argument as a number, or what stands in for it.
 fn number(rt: &HostRuntime, place: usize, otherwise: u32) -> io::Result<u32> {
@@ -68,8 +54,8 @@ fn measure(
 ) -> io::Result<()> {
     let size = forest.size;
     let n = size as usize;
-    let mut enodes = vec![in heap; NO_ENODE; n]?;
-    let mut givens = vec![in heap; NO_GIVEN; 65536]?;
+    let mut enodes = vec![in heap; ENode::default(); n]?;
+    let mut givens = vec![in heap; Given::default(); 65536]?;
     let mut arguments = [Pair::default(); 1];
     let mut graph = EGraph::new(&mut enodes, &mut givens, &mut arguments, Live::new());
     let refused = forest.grow(&mut graph, passed);
