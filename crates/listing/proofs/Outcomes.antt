@@ -4,14 +4,11 @@ use Rattle.std.proofs.lemmas.Bool.{leb-true, le-leb, lt-ltb}
 use Rattle.model.specs.declared.items.Pair.{Pair}
 use Rattle.model.specs.declared.items.Step.{Step}
 use Rattle.model.specs.declared.items.RootWalk.{RootWalk}
-use Rattle.model.specs.declared.error.Fault.{Fault}
-use Rattle.model.specs.Refusals.{Refusal, asked, for_pair, refusal_of, number_of}
+use Rattle.model.specs.Refusals.{Refusal, asked}
 use Rattle.model.specs.Checks.{Check, require, unless_refused}
 use Rattle.model.specs.Walks.{Links, root_walk}
 use Rattle.model.specs.Paths.{path}
 use Rattle.model.specs.WalkCalls.{long_enough, cleared, placed, told_walk, walk_checks, path_to_root, path_checks, told_path, path_call}
-use Rattle.lines.specs.Text.{refused_text}
-use Rattle.listing.specs.Question.{text_unless, answer_text, reply_text}
 use Rattle.egraph.proofs.GivenChecks.{both_pass, first_known}
 
 module _ {A S : Type 0} where
@@ -28,13 +25,6 @@ module _ {A S : Type 0} where
 asked_passes : (p : Pair) (c : Check) → asked p c ≡ Ok tt → c ≡ Ok tt
 asked_passes p (Ok tt) h = refl
 asked_passes p (Err r) h = absurd (let z : ◌≡◌ {A = ℕ} 0 1 = cc in omega arith)
-
--- the refusal of a question is told by the number of its check
-pub asked_declines : (p : Pair) (c : Check) (r : Refusal) → asked p c ≡ Err r → (place : ℕ) (text : List ℕ) → refused_text r.number place ≡ text_unless place c text
-asked_declines p (Ok tt) r h place text = absurd (let z : ◌≡◌ {A = ℕ} 0 1 = cc in omega arith)
-asked_declines p (Err e) r h place text =
-    let same : for_pair p e ≡ r = cc in
-    ap (λ (x : Refusal). refused_text x.number place) (sym same)
 
 required : (b : Bool) (r : Refusal) → require b r ≡ Ok tt → b ≡ true
 required true r h = refl
@@ -73,13 +63,6 @@ module _ (next : Links) (size : ℕ) (p : Pair) (marks : List ℕ) (walks : ℕ)
 
   abbrev told : Option ℕ × List Step
   told = told_path (path next size p.from p.to) out
-
-  pub path_refused : (f : Fault) (t : List ℕ × List Step) → ◌≡◌ {A = Result (Option ℕ) Refusal × (List ℕ × List Step)} (Err (refusal_of f), t) (path_call next size p marks walks out) →
-      (place : ℕ) → refused_text (number_of f.cause) place ≡ reply_text next size p place
-  path_refused f t h place =
-      let c = path_checks size p (length marks) walks (length out) in
-      asked_declines p c (refusal_of f) (declines (asked p c) (marks, out) told.0 (cleared marks, told.1) (refusal_of f) t h) place (answer_text next size p)
-      ∙ ap (λ r. text_unless place r (answer_text next size p)) checks_at
 
   pub path_answered : (count : Option ℕ) (after : List ℕ) (steps : List Step) → ◌≡◌ {A = Result (Option ℕ) Refusal × (List ℕ × List Step)} (Ok count, (after, steps)) (path_call next size p marks walks out) →
       PathTold next size p out count steps

@@ -1,5 +1,5 @@
 -- The text of a reply, by what the calls wrote into the scratch. Assumes nothing.
-use Rattle.std.proofs.Common.{◌≡◌, ℕ, ◌+◌, ◌-◌, ◌<◌, ◌≤◌, Bool, cond, List, [], ◌++◌, length, get_or, take, drop, Some, None, IfSome, Ok, Option, Result, sym, refl, ap, ◌∙◌, subst, append_assoc, zero-add, arith}
+use Rattle.std.proofs.Common.{◌≡◌, ℕ, ◌+◌, ◌-◌, ◌<◌, ◌≤◌, Bool, cond, List, [], ◌++◌, length, get_or, take, drop, Some, None, IfSome, Ok, Option, Result, sym, refl, ap, ◌∙◌, subst, zero-add, arith}
 use lib.Seq.{take-append_seam}
 use Rattle.std.proofs.lemmas.List.{get_or_append_left}
 use Rattle.std.proofs.lemmas.Bool.{ne_eqb}
@@ -80,10 +80,6 @@ answer_shown next size p first second one two root count steps out other w root_
 -- links lead to enodes on the books
 pub links_within : (counts : ℕ → Bool) (gs : List Given) (size : ℕ) → EndsKnown gs size → Within (links counts gs) size
 links_within counts gs size ends = λ e l is. link_within counts gs e l is size ends
-
--- the reply is written behind the question
-pub written_behind : (out mid before question shown reply : List ℕ) → mid ≡ before ++ question → shown ≡ reply → out ≡ mid ++ shown → out ≡ before ++ (question ++ reply)
-written_behind out mid before question shown reply first same last = last ∙ (λ i. first i ++ same i) ∙ append_assoc before question reply
 
 -- a question that was not refused, with its first walk
 pub record Begun (next : Links) (size : ℕ) (p : Pair) (out : List Step) (count : Option ℕ) (steps : List Step) (first : RootWalk) (one : List ℕ) : Type 0 where

@@ -19,7 +19,7 @@ pub struct Input {
 }
 
 impl Input {
-    pub fn log(&self) -> Log<'_>
+    pub(crate) fn log(&self) -> Log<'_>
         ensures words { result.words.now ≡ self.now.words.items }
         ensures ragged { result.ragged ≡ self.now.ragged }
     {

@@ -26,7 +26,7 @@ impl Model for Listing {
 }
 
 impl Listing {
-    pub fn new(heap: Global) -> Listing
+    pub(crate) fn new(heap: Global) -> Listing
         ensures { result ≡ [] }
     {
         Listing {
@@ -35,14 +35,18 @@ impl Listing {
         }
     }
 
-    pub fn show_fault(&mut self, fault: Fault, place: u32) -> Result<(), AllocError>
+    pub(crate) fn show_fault(&mut self, fault: Fault, place: u32) -> Result<(), AllocError>
         ensures { OnOk result (self.new ≡ self.old ++ refused_text (number_of fault.cause) place) }
     {
         refused_line(&mut self.out, fault.cause.number(), place)
     }
 
     // A call that is not refused prints nothing.
-    pub fn show_refusal(&mut self, answer: Result<u32, Fault>, place: u32) -> Result<(), AllocError>
+    pub(crate) fn show_refusal(
+        &mut self,
+        answer: Result<u32, Fault>,
+        place: u32,
+    ) -> Result<(), AllocError>
         ensures { OnOk result (self.new ≡ self.old ++ refusal_text place (told answer)) }
     {
         match answer {
@@ -52,7 +56,10 @@ impl Listing {
     }
 
     // How much is on the books.
-    pub fn show_totals<R: FrameRule>(&mut self, graph: &EGraph<'_, R>) -> Result<(), AllocError>
+    pub(crate) fn show_totals<R: FrameRule>(
+        &mut self,
+        graph: &EGraph<'_, R>,
+    ) -> Result<(), AllocError>
         ensures { OnOk result (self.new ≡ self.old ++ totals_text (size_on_file graph.now) (length (givens_on_file graph.now)) (length (frames_of graph.now).opened)) }
     {
         let enodes = graph.enode_count() as u32;
@@ -60,7 +67,7 @@ impl Listing {
         totals_line(&mut self.out, enodes, givens, graph.height())
     }
 
-    pub fn into_text(self) -> String
+    pub(crate) fn into_text(self) -> String
         ensures { string_bytes result ≡ self }
     {
         let Listing { scratch: _, out } = self;

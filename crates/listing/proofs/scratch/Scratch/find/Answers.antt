@@ -1,22 +1,10 @@
 -- The walks and the path of a question stand in the scratch; only the path's call refuses.
-use Rattle.std.proofs.Common.{◌≡◌, ◌-◌, length, get_or, Some, sym, refl, ap, ◌∙◌, arith, rules}
-use Rattle.std.proofs.lemmas.Result.{err_from_is_err_and}
+use Rattle.std.proofs.Common.{◌-◌, length, get_or, Some, sym, refl, ap, ◌∙◌, arith, rules}
 use Rattle.egraph.specs.View.{links_in, given_list, size}
 use Rattle.listing.specs.Question.{text_unless, answer_text}
-use Rattle.listing.proofs.Outcomes.{path_refused, walk_answered}
+use Rattle.listing.proofs.Outcomes.{walk_answered}
 use Rattle.listing.proofs.Replies.{links_within, walked, begun, answer_shown}
 use Rattle.listing.proofs.scratch.Scratch.find.Goals as goal
-
-pub returns-in_err-steps : goal.returns-in_err-steps
-returns-in_err-steps g c =
-    let e = err_from_is_err_and c.from_residual.result c.from_residual.ensures.1 in
-    let t = c.args.graph.now in
-    let s = c.args.self.now in
-    let bytes : length s.marks ≡ 128 = search rules in
-    let places : length s.walks ≡ 256 = search rules in
-    let rows : length s.steps ≡ 128 = search rules in
-    let next = links_in (g.R.FrameRule.means t.rule) t.records in
-    rw (e.1, e.2) (path_refused next (size t.records) c.args.pair s.marks (length s.walks) s.steps bytes places rows c.in_err-steps.field-0.0 (c.path.new.marks, c.path.new.steps) c.in_err-steps.ensures.outcome)
 
 pub overflow_sub-root : goal.overflow_sub-root
 overflow_sub-root g c =
