@@ -25,6 +25,7 @@ pub(crate) fn check_length(needed: usize, len: usize) -> Result<(), Fault>
 }
 
 impl<'a, R: FrameRule> EGraph<'a, R> {
+    // A number that is known to be on the books is no type of its own: the fact is one of the graph too, and a type could not name it.
     pub(crate) fn check_enode(&self, enode: u32) -> Result<(), Fault>
         ensures { told result ≡ all_known (size_on_file self.now) (enode ∷ []) }
     {

@@ -19,7 +19,7 @@ impl SimplePath {
         self.from_to_root - self.shared
     }
 
-    // And how many go down from there.
+    // And how many go down from there. Two methods, as one over the field would be longer.
     pub(crate) fn falling(&self) -> usize
         ensures { result ≡ self.now.to_to_root - self.now.shared }
     {

@@ -46,6 +46,7 @@ impl<'a, R: FrameRule> EGraph<'a, R> {
         marks.fill(0);
         let guard = Marks { bytes: marks };
         let mut at = from;
+        // `len` is answered; the enodes are found along the links, and no slice holds them.
         for len in 0..self.records.enodes.len {
             if guard.bytes[at as usize] != 0 {
                 return RootWalk {

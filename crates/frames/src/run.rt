@@ -7,6 +7,7 @@ ghost use Rattle.frames.specs.Runs.{Reaches, call_frame};
 use crate::rule::FrameRule;
 use model::error::Fault;
 
+// A value and no closure, since contracts and logs list the calls of a run.
 #[derive(Clone, Copy, Debug, PartialEq, Eq)]
 pub enum FrameCall {
     Open,

@@ -36,7 +36,7 @@ impl Listing {
         }
     }
 
-    // Runs the log to its end, or to words that cannot be read.
+    // Runs the log to its end, or to words that cannot be read. A plain loop, since a call's place is asked before the call is read.
     fn run_calls<R: FrameRule>(
         &mut self,
         graph: &mut EGraph<'_, R>,

@@ -7,7 +7,7 @@ pub struct Pair {
     pub to: u32,
 }
 
-// A given with a direction.
+// A given with a direction. The given is there in both, so that the flag stands for no Option.
 #[derive(Clone, Copy, Debug, Default, PartialEq, Eq)]
 pub struct Step {
     pub given: u32,

@@ -37,6 +37,7 @@ fn walk_all<R: FrameRule>(
 
 // Clears the mark bytes once for each walk, which itself does so twice.
 fn clear_all(forest: Forest, walks: u32, marks: &mut [u8]) {
+    // `i` is the number of a walk and no index.
     for i in 0..walks {
         marks.fill(0);
         if let Some(mark) = marks.get_mut(forest.leaf(i) as usize) {

@@ -40,6 +40,7 @@ impl TryFrom<u32> for TransEqAllowed {
     }
 }
 
+// A value and no closure, since it is written, read back and compared.
 #[derive(Clone, Copy, Debug, PartialEq, Eq)]
 pub enum Call<'a> {
     Enode {
