@@ -4,6 +4,7 @@ use Rattle.model.specs.Records.{Given}
 use Rattle.model.specs.Frames.{Frames}
 use Rattle.model.specs.Walks.{Links}
 use Rattle.model.specs.Logging.{Case}
+use Rattle.model.specs.PathLaws.{WalkLaws}
 use Rattle.frames.specs.declared.rule.FrameRule.{Ghosts}
 use Rattle.egraph.specs.declared.egraph.EGraph.{EGraph}
 use Rattle.egraph.specs.View.{given_list, links_in, size, case_of}
@@ -24,3 +25,7 @@ module _ {R : Type 0} {rule : Ghosts R} where
   -- how many enodes there are
   abbrev pub size_on_file : EGraph R rule → ℕ
   size_on_file g = size g.records
+
+  -- the laws of walks and paths, for what is on file
+  abbrev pub LawfulWalks : EGraph R rule → Type 0
+  LawfulWalks g = WalkLaws (frames_of g).counts (givens_on_file g) (size_on_file g)

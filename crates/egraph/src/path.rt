@@ -4,8 +4,7 @@ ghost use Rattle.model.specs.Paths.{path};
 ghost use Rattle.model.specs.Refusals.{told};
 ghost use Rattle.model.specs.Checks.{and_then};
 ghost use Rattle.model.specs.WalkCalls.{cleared, long_enough, pair_checks, path_checks, check_eq_call, path_call, told_path};
-ghost use Rattle.model.specs.PathLaws.{WalkLaws};
-ghost use Rattle.egraph.specs.Graph.{frames_of, links_on_file, givens_on_file, size_on_file};
+ghost use Rattle.egraph.specs.Graph.{links_on_file, size_on_file, LawfulWalks};
 ghost use Rattle.egraph.specs.SimplePath.{FoundPath};
 
 use crate::checks::check_length;
@@ -71,7 +70,7 @@ impl<'a, R: FrameRule> EGraph<'a, R> {
         walks: &mut [u32],
     ) -> Result<bool, Fault>
         ensures outcome { (told result, marks.new) ≡ check_eq_call (links_on_file self.now) (size_on_file self.now) (record { from = from; to = to }) marks.old (length walks.old) }
-        ensures laws { WalkLaws (frames_of self.now).counts (givens_on_file self.now) (size_on_file self.now) }
+        ensures laws { LawfulWalks self.now }
     {
         let pair = Pair { from, to };
         asked(pair, self.check_pair(pair, marks.len(), walks.len()))?;
@@ -117,7 +116,7 @@ impl<'a, R: FrameRule> EGraph<'a, R> {
         steps: &mut [Step],
     ) -> Result<Option<usize>, Fault>
         ensures outcome { (told result, (marks.new, steps.new)) ≡ path_call (links_on_file self.now) (size_on_file self.now) (record { from = from; to = to }) marks.old (length walks.old) steps.old }
-        ensures laws { WalkLaws (frames_of self.now).counts (givens_on_file self.now) (size_on_file self.now) }
+        ensures laws { LawfulWalks self.now }
     {
         let pair = Pair { from, to };
         asked(

@@ -1,10 +1,9 @@
 // Root walks: from an enode along its links, to an enode with no link, before one met again, or to a root that is told.
 ghost use Rattle.std.specs.Prelude.{◌≡◌, ◌+◌, ◌<◌, ◌≤◌, length, replicate};
 ghost use Rattle.model.specs.Walks.{root_walk};
-ghost use Rattle.egraph.specs.Graph.{frames_of, links_on_file, givens_on_file, size_on_file};
+ghost use Rattle.egraph.specs.Graph.{links_on_file, size_on_file, LawfulWalks};
 ghost use Rattle.model.specs.Refusals.{told};
 ghost use Rattle.model.specs.WalkCalls.{placed, told_walk, walk_checks, path_to_root};
-ghost use Rattle.model.specs.PathLaws.{WalkLaws};
 
 use crate::checks::check_length;
 use crate::egraph::EGraph;
@@ -105,7 +104,7 @@ impl<'a, R: FrameRule> EGraph<'a, R> {
         path: &mut [u32],
     ) -> Result<RootWalk, Fault>
         ensures outcome { (told result, (marks.new, path.new)) ≡ path_to_root (links_on_file self.now) (size_on_file self.now) from root marks.old path.old }
-        ensures laws { WalkLaws (frames_of self.now).counts (givens_on_file self.now) (size_on_file self.now) }
+        ensures laws { LawfulWalks self.now }
     {
         self.check_walk(from, root, marks.len(), path.len())?;
         Ok(self.walk(from, root, marks, path))
