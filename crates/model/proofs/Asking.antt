@@ -174,7 +174,7 @@ module _ (next : Links) (records : Records) (places : Places) where
               let e : Entry = record { segments = mark p.from ∷ []; count = 0; last = p.to } in
               file_does before e s (tt, tt) (λ _. refl) (record {
                 answers = record { from_known = from_known; to_known = to_known; on_file = omega arith; says = marks none (ap (λ (x : Entry). is_mark x.segments) (newest_entry e m.entries)) };
-                count = λ way q. absurd (let z : ◌≡◌ {A = ℕ} 0 1 = cc in omega arith);
+                count = λ way q. absurd (cc);
                 ends_at = ap (λ (x : Entry). x.last) (newest_entry e m.entries);
               })
 
@@ -235,14 +235,14 @@ module _ (next : Links) (records : Records) (places : Places) where
           from_start_does es f s l None q =
               does_bind next size
               (look_does next records places level (Refused p level) es ss (Back es) (length ss) p.to (λ j n d lt h t. (span_end es ss j n d h t, lt)) 0 way.enodes f s
-              (record { entries = l.entries; edges = l.edges; spanning = λ n e. absurd (let y : ◌≡◌ {A = ℕ} 0 1 = cc in omega arith) }))
+              (record { entries = l.entries; edges = l.edges; spanning = λ n e. absurd (cc) }))
               (λ g n _ pn k. from_end_does es g pn.sound k g.spanning refl)
 
           joined_does : {m : Memory} → Sound m → Answers before (Q.joined next records places level nested p way) m
           joined_does {m} s =
               does_bind next size
               (look_does next records places level (Refused p level) m.entries ss (λ n. reads m.entries n ≡ ss) 0 p.from (λ j n d lt h t. span_start m.entries ss j n d h t) 0 way.enodes none_found s
-              (record { entries = refl; edges = tt; spanning = λ n e. absurd (let y : ◌≡◌ {A = ℕ} 0 1 = cc in omega arith) }))
+              (record { entries = refl; edges = tt; spanning = λ n e. absurd (cc) }))
               (λ f n _ pn l. from_start_does m.entries f pn.sound l f.spanning refl)
 
         answer_does : (may : Bool) → ((way : Path) → way_of next size p ≡ Some way → 0 < length way.steps) → {m : Memory} → Sound m → Answers before (Q.answer next records places level nested p may) m

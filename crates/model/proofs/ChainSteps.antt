@@ -13,8 +13,8 @@ use Rattle.model.proofs.Growth.{Longer, longer_reads}
 
 pub same_steps_eq : (xs ys : List Step) → same_steps xs ys ≡ true → xs ≡ ys
 same_steps_eq [] [] h = refl
-same_steps_eq [] (y ∷ ys) h = absurd (let z : ◌≡◌ {A = ℕ} 0 1 = cc in omega arith)
-same_steps_eq (x ∷ xs) [] h = absurd (let z : ◌≡◌ {A = ℕ} 0 1 = cc in omega arith)
+same_steps_eq [] (y ∷ ys) h = absurd (cc)
+same_steps_eq (x ∷ xs) [] h = absurd (cc)
 same_steps_eq (x ∷ xs) (y ∷ ys) h =
     let p = and_parts (same_step x y) (same_steps xs ys) h in
     let e = same_step_eq x y p.0 in
@@ -64,7 +64,7 @@ module _ (es : List Entry) (ss : List Step) where
       back true e f =
           let p = and_parts (ltb j i) (same_steps (reads es n) (turned (stretch ss j i))) e in
           inr (ltb-true j i p.0, same_steps_eq (reads es n) (turned (stretch ss j i)) p.1, cc)
-      back false e f = absurd (let z : ◌≡◌ {A = ℕ} 0 1 = cc in omega arith)
+      back false e f = absurd (cc)
 
       straight : (b : Bool) → (ltb i j && same_steps (reads es n) (stretch ss i j)) ≡ b → Straight i j n d ⊎ Turned i j n d
       straight true e =
@@ -128,9 +128,9 @@ module _ (es : List Entry) (ss : List Step) where
       go false e old = rw (e, best) old
 
   drop_more : (i : ℕ) (xs : List Step) (s : Step) (rest : List Step) → drop i xs ≡ s ∷ rest → drop (suc i) xs ≡ rest
-  drop_more zero [] s rest h = absurd (let z : ◌≡◌ {A = ℕ} 0 1 = cc in omega arith)
+  drop_more zero [] s rest h = absurd (cc)
   drop_more zero (x ∷ xs) s rest h = cc
-  drop_more (suc i) [] s rest h = absurd (let z : ◌≡◌ {A = ℕ} 0 1 = cc in omega arith)
+  drop_more (suc i) [] s rest h = absurd (cc)
   drop_more (suc i) (x ∷ xs) s rest h = drop_more i xs s rest h
 
   first_says : (cs : List (List Segment)) (steps : List Step) → Says (get_or cs 0 []) steps → Says (first_chain cs) steps

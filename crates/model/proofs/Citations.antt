@@ -63,8 +63,8 @@ use_new us n g u below =
 
 same_list_eq : (xs ys : List ℕ) → same_list xs ys ≡ true → xs ≡ ys
 same_list_eq [] [] h = refl
-same_list_eq [] (y ∷ ys) h = absurd (let z : ◌≡◌ {A = ℕ} 0 1 = cc in omega arith)
-same_list_eq (x ∷ xs) [] h = absurd (let z : ◌≡◌ {A = ℕ} 0 1 = cc in omega arith)
+same_list_eq [] (y ∷ ys) h = absurd (cc)
+same_list_eq (x ∷ xs) [] h = absurd (cc)
 same_list_eq (x ∷ xs) (y ∷ ys) h =
     let p = and_parts (eqb x y) (same_list xs ys) h in
     let e = eqb-true x y p.0 in
@@ -73,7 +73,7 @@ same_list_eq (x ∷ xs) (y ∷ ys) h =
 
 -- an equal list is found at its number
 place_found : (u : List ℕ) (i : ℕ) (vs : List (List ℕ)) (k : ℕ) → place_of u i vs ≡ Some k → (j : ℕ) × (k ≡ i + j) × (j < length vs) × (get_or vs j [] ≡ u)
-place_found u i [] k h = absurd (let z : ◌≡◌ {A = ℕ} 0 1 = cc in omega arith)
+place_found u i [] k h = absurd (cc)
 place_found u i (v ∷ vs) k h = go (same_list u v) refl (place_found u (suc i) vs k)
   where
     go : (b : Bool) → same_list u v ≡ b → (place_of u (suc i) vs ≡ Some k → (j : ℕ) × (k ≡ suc i + j) × (j < length vs) × (get_or vs j [] ≡ u)) → (j : ℕ) × (k ≡ i + j) × (j < length (v ∷ vs)) × (get_or (v ∷ vs) j [] ≡ u)

@@ -37,12 +37,12 @@ module _ (next : Links) where
   walk_terminal (suc room) a lt n = go (next a) refl n
     where
       here : (o : Ending) (w : List ℕ) → says o (next (last a w)) → NoCircle a (record { enodes = a ∷ w; ending = o }) → Terminal next (last a w)
-      here no_link w s n l q = absurd (let z : ◌≡◌ {A = ℕ} 0 1 = cc in omega arith)
+      here no_link w s n l q = absurd (cc)
       here (again x) w s n l q = s l q ∙ n
       here (at_root x) w s n l q = absurd s
 
       go : (k : Option Link) → next a ≡ k → NoCircle a (visit a (λ x. walk next None room (a ∷ []) x) false false k) → Terminal next (last a (visit a (λ x. walk next None room (a ∷ []) x) false false k).enodes)
-      go None q n = λ l e. absurd (let z : ◌≡◌ {A = ℕ} 0 1 = cc in omega arith)
+      go None q n = λ l e. absurd (cc)
       go (Some l) q n = here (walk next None room (a ∷ []) l.to).ending (walk next None room (a ∷ []) l.to).enodes (ending_says room (a ∷ []) a l q) n
 
   -- a walk that is told such an enode as root meets the same

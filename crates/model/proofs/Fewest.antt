@@ -28,7 +28,7 @@ kept_rises read ss i j n d h = elim (cases_Bool (ltb i j && same_steps (read n) 
         let from : j ≡ d.from = cc in
         let to : i ≡ d.to = cc in
         (omega arith, inr (sym to))
-    | inr f ↦ let is : None ≡ Some d = rw (e, f) at h in absurd (let z : ◌≡◌ {A = ℕ} 0 1 = cc in omega arith)
+    | inr f ↦ let is : None ≡ Some d = rw (e, f) at h in absurd (cc)
   ]
 ]
 

@@ -16,7 +16,7 @@ module _ (test : Given → Bool) (gs : List Given) where
     pub newer_fail : (j : ℕ) → k < j → j < n → test (given_at gs j) ≡ false
 
   pub newest_found : (n k : ℕ) → newest test gs n ≡ Some k → Newest n k
-  newest_found zero k h = absurd (let z : ◌≡◌ {A = ℕ} 0 1 = cc in omega arith)
+  newest_found zero k h = absurd (cc)
   newest_found (suc n) k h = elim (cases_Bool (test (given_at gs n))) [
     | inl e ↦
         let found : Some n ≡ Some k = rw e at h in
@@ -34,7 +34,7 @@ module _ (test : Given → Bool) (gs : List Given) where
   pub newest_none : (n : ℕ) → newest test gs n ≡ None → (j : ℕ) → j < n → test (given_at gs j) ≡ false
   newest_none zero h j lt = absurd (omega arith)
   newest_none (suc n) h j lt = elim (cases_Bool (test (given_at gs n))) [
-    | inl e ↦ let found : Some n ≡ None = rw e at h in absurd (let z : ◌≡◌ {A = ℕ} 0 1 = cc in omega arith)
+    | inl e ↦ let found : Some n ≡ None = rw e at h in absurd (cc)
     | inr e ↦ elim (cases_eq j n) [ inl s ↦ rw s e | inr ne ↦ newest_none n (rw e at h) j (omega arith) ]
   ]
 
@@ -76,7 +76,7 @@ module _ (counts : ℕ → Bool) (gs : List Given) (e : ℕ) (l : Link) (is : li
   parts = go (newest (counting counts e) gs (length gs)) refl is
     where
       go : (o : Option ℕ) → newest (counting counts e) gs (length gs) ≡ o → as_link gs o ≡ Some l → (newest (counting counts e) gs (length gs) ≡ Some l.given) × ((given_at gs l.given).to ≡ l.to)
-      go None p q = absurd (let z : ◌≡◌ {A = ℕ} 0 1 = cc in omega arith)
+      go None p q = absurd (cc)
       go (Some n) p q =
           let same : n ≡ l.given = cc in
           let at : (given_at gs n).to ≡ l.to = cc in

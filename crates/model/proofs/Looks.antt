@@ -46,7 +46,7 @@ module _ (next : Links) (records : Records) (places : Places) where
         spanned n d q lt false r ih = ih (record { edges = d ∷ f.edges; spanning = None }) m s (record {
           entries = h.entries;
           edges = (kept_good es ss i j n d lt q, h.edges);
-          spanning = λ k t. absurd (let y : ◌≡◌ {A = ℕ} 0 1 = cc in omega arith);
+          spanning = λ k t. absurd (cc);
         })
 
         judged : (n : ℕ) → n < length es → (k : Option Edge) → kept (reads es) ss i j n ≡ k → Next → Does next size none_pending (Looking W) S (Q.judged next records places level (length ss) e x n f on k) m

@@ -54,7 +54,7 @@ module _ (before : Memory) (p : Pair) (way : Path) (laid : Laid p way) where
           let ke' : Keepable before way i j k d = subst (λ x. Keepable before way x j k d) (sym same_a) (subst (λ y. Keepable before way a y k d) (sym same_b) ke) in
           let same_n : Some n ≡ Some k = keepable_here m h i j (Some n) s k d ke' in
           let k_none : held i j k ≡ None = subst (λ x. held i j x ≡ None) (let z : n ≡ k = cc in z) none in
-          absurd (let w = ke'.is_kept in let z : ◌≡◌ {A = ℕ} 0 1 = cc in omega arith)
+          absurd (let w = ke'.is_kept in cc)
       | inr e ↦ without_other m.standing (at i) (at j) (at a) (at b) e ∙ h.standing a b k d ke
     ];
   }
@@ -108,7 +108,7 @@ module _ (before : Memory) (p : Pair) (way : Path) (laid : Laid p way) where
       look_added n d s ke true sp = record {
         intact = h;
         more = λ c q. Memᴰ.tail q;
-        found = λ empty. absurd (let z : ◌≡◌ {A = ℕ} 0 1 = cc in omega arith);
+        found = λ empty. absurd (cc);
         inside = λ low high.
             let ends = and_parts (eqb d.from 0) (eqb d.to size) sp in
             let first = eqb-true d.from 0 ends.0 in
@@ -126,7 +126,7 @@ module _ (before : Memory) (p : Pair) (way : Path) (laid : Laid p way) where
       look_judged n s None lost =
           ensured_after (Looked i j f) [] _ (goes_on f none _ (dropped_intact m h i j n li lj s lost) (λ d q. q) (λ k d kd.
           let is = holds n s k d kd in
-          absurd (let z : ◌≡◌ {A = ℕ} 0 1 = cc in omega arith)))
+          absurd (cc)))
       look_judged n s (Some d) ke = look_added n d s ke (spans size d) refl
 
       look_standing : (o : Option ℕ) → stands m.standing (at i) (at j) ≡ o → ensured (Looked i j f) (Q.look_at next records places level way.steps i (at i) j (at j) f on o m)
@@ -134,7 +134,7 @@ module _ (before : Memory) (p : Pair) (way : Path) (laid : Laid p way) where
       look_standing None s =
           goes_on f none m h (λ d q. q) (λ n d ke.
           let e : None ≡ Some n = keepable_here m h i j None s n d ke in
-          absurd (let z : ◌≡◌ {A = ℕ} 0 1 = cc in omega arith))
+          absurd (cc))
       look_standing (Some n) s =
           ensured_after (Looked i j f) [] _
           (subst (λ es. ensured (Looked i j f) (Q.judged next records places level size (at i) (at j) n f on (kept (reads es) way.steps i j n) m)) (sym h.entries)

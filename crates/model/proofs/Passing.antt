@@ -103,7 +103,7 @@ module _ (next : Links) (size : ℕ) where
     longer = longer_self m.entries;
     uses = more_self m.uses;
     sound = s;
-    filed = ((λ n h. absurd (let z : ◌≡◌ {A = ℕ} 0 1 = cc in omega arith)), tt);
+    filed = ((λ n h. absurd (cc)), tt);
     by_questions = λ k low high _. omega arith;
   }
 

@@ -30,9 +30,9 @@ distinct_at (x ∷ xs) d (suc a) (suc b) la lb e = ap suc (distinct_at xs d.1 a 
 
 -- the number at a place, and those after it
 pub drop_here : (j : ℕ) (ys : List ℕ) (x : ℕ) (xs : List ℕ) → drop j ys ≡ x ∷ xs → (j < length ys) × (get_or ys j 0 ≡ x) × (drop (suc j) ys ≡ xs)
-drop_here zero [] x xs h = absurd (let z : ◌≡◌ {A = ℕ} 0 1 = cc in omega arith)
+drop_here zero [] x xs h = absurd (cc)
 drop_here zero (y ∷ ys) x xs h = (omega arith, (cc), (cc))
-drop_here (suc j) [] x xs h = absurd (let z : ◌≡◌ {A = ℕ} 0 1 = cc in omega arith)
+drop_here (suc j) [] x xs h = absurd (cc)
 drop_here (suc j) (y ∷ ys) x xs h = let r = drop_here j ys x xs h in (omega (arith, r.0), r.1, r.2)
 
 -- how a path is laid between the ends of its pair

@@ -128,7 +128,7 @@ path_found next size a b p h = go (eqb (last a f) (last b t)) refl h
     t = second_walk next size a b
 
     go : (e : Bool) → eqb (last a f) (last b t) ≡ e → some_if e (join next f t) ≡ Some p → Found next size a b p
-    go false e q = absurd (let z : ◌≡◌ {A = ℕ} 0 1 = cc in omega arith)
+    go false e q = absurd (cc)
     go true e q = record { ends = eqb-true (last a f) (last b t) e; is = cc }
 
 pub path_made : (next : Links) (size a b : ℕ) → last a (first_walk next size a) ≡ last b (second_walk next size a b) → path next size a b ≡ Some (join next (first_walk next size a) (second_walk next size a b))

@@ -43,7 +43,7 @@ joins_itself gs (s ∷ ss) x j d =
 
 there_is : {A : Type 0} (o : Option A) → is_some o ≡ true → (a : A) × (o ≡ Some a)
 there_is (Some a) h = (a, refl)
-there_is None h = absurd (let y : ◌≡◌ {A = ℕ} 0 1 = cc in omega arith)
+there_is None h = absurd (cc)
 
 pub laws_of : (s : Session) → InOrder s → WalkLaws s.case.frames.counts s.case.records.givens (size_of s)
 laws_of s h = walks_lawful s.case.frames.counts s.case.records.givens (size_of s) h.ends

@@ -30,7 +30,7 @@ pub record Sound (m : Memory) : Type 0 where
   pub marks : (n : ℕ) → is_mark (entry_at m.entries n).segments ≡ true → reads m.entries n ≡ []
 
 pub sound_none : Sound nothing_filed
-sound_none = record { standing = λ a b n h. absurd (let z : ◌≡◌ {A = ℕ} 0 1 = cc in omega arith); cited = tt; marks = λ n h. refl }
+sound_none = record { standing = λ a b n h. absurd (cc); cited = tt; marks = λ n h. refl }
 
 pub sound_dropped : (m : Memory) (a b : ℕ) → Sound m → Sound (record { entries = m.entries; uses = m.uses; standing = without m.standing a b })
 sound_dropped m a b s = record { standing = λ x y n h. s.standing x y n (without_stands m.standing a b x y n h); cited = s.cited; marks = s.marks }
@@ -75,12 +75,12 @@ reads_past (e ∷ es) n h =
     rw (ne, reads) (reads_past es n (omega arith))
 
 turned_entry_is : (segs : List Segment) (inner : ℕ) → turned_entry segs ≡ Some inner → segs ≡ entry inner false ∷ []
-turned_entry_is [] inner h = absurd (let z : ◌≡◌ {A = ℕ} 0 1 = cc in omega arith)
-turned_entry_is (step s u ∷ ss) inner h = absurd (let z : ◌≡◌ {A = ℕ} 0 1 = cc in omega arith)
-turned_entry_is (mark e ∷ ss) inner h = absurd (let z : ◌≡◌ {A = ℕ} 0 1 = cc in omega arith)
-turned_entry_is (entry n true ∷ ss) inner h = absurd (let z : ◌≡◌ {A = ℕ} 0 1 = cc in omega arith)
+turned_entry_is [] inner h = absurd (cc)
+turned_entry_is (step s u ∷ ss) inner h = absurd (cc)
+turned_entry_is (mark e ∷ ss) inner h = absurd (cc)
+turned_entry_is (entry n true ∷ ss) inner h = absurd (cc)
 turned_entry_is (entry n false ∷ []) inner h = let e : n ≡ inner = cc in cc
-turned_entry_is (entry n false ∷ t ∷ ss) inner h = absurd (let z : ◌≡◌ {A = ℕ} 0 1 = cc in omega arith)
+turned_entry_is (entry n false ∷ t ∷ ss) inner h = absurd (cc)
 
 module _ (ss : List Step) (some : 0 < length ss) where
   -- an entry with steps is on file
@@ -102,7 +102,7 @@ module _ (ss : List Step) (some : 0 < length ss) where
 
   -- the entry that an entry turns reads the other way
   pub reads_inner : (es : List Entry) (e inner : ℕ) → turned_entry (entry_at es e).segments ≡ Some inner → reads es e ≡ turned ss → reads es inner ≡ ss
-  reads_inner [] e inner t h = absurd (let z : ◌≡◌ {A = ℕ} 0 1 = cc in omega arith)
+  reads_inner [] e inner t h = absurd (cc)
   reads_inner (x ∷ es) e inner t h = go (eqb e (length es)) refl (reads_inner es e inner)
     where
       go : (b : Bool) → eqb e (length es) ≡ b → (turned_entry (entry_at es e).segments ≡ Some inner → reads es e ≡ turned ss → reads es inner ≡ ss) → reads (x ∷ es) inner ≡ ss

@@ -73,14 +73,14 @@ module _ (k : Case) (h : EndsKnown k.records.givens (length k.records.enodes)) w
 
   and_then_first : (c d : Check) → and_then c d ≡ Ok tt → c ≡ Ok tt
   and_then_first (Ok u) d e = refl
-  and_then_first (Err r) d e = absurd (let z : ◌≡◌ {A = ℕ} 0 1 = cc in omega arith)
+  and_then_first (Err r) d e = absurd (cc)
 
   known_first : (size e : ℕ) (es : List ℕ) → all_known size (e ∷ es) ≡ Ok tt → (e < size) × (all_known size es ≡ Ok tt)
   known_first size e es q = go (ltb e size) refl
     where
       go : (b : Bool) → ltb e size ≡ b → (e < size) × (all_known size es ≡ Ok tt)
       go true t = (ltb-true e size t, rw (t, all_known) at q)
-      go false t = absurd (let r : Err _ ≡ Ok tt = rw (t, all_known) at q in let z : ◌≡◌ {A = ℕ} 0 1 = cc in omega arith)
+      go false t = absurd (let r : Err _ ≡ Ok tt = rw (t, all_known) at q in cc)
 
   framed_grown : (g : ℕ → Given) → ((frame : ℕ) → ((g frame).from < length k.records.enodes) × ((g frame).to < length k.records.enodes)) → (o : Result ℕ Refusal × Frames) → Grown k (in_frame k g o).1
   framed_grown g known (Ok frame, m) = record { ends = ends_given k.records.givens (g frame) (length k.records.enodes) h (known frame).0 (known frame).1; no_fewer = omega arith }

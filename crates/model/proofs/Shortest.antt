@@ -23,8 +23,8 @@ pub record FilesLeast (C : List Segment → Type 0) (r : Reply) (m : Memory) : T
 
 pub files_none : (C : List Segment → Type 0) (r : Reply) (m : Memory) → filed_by r ≡ None → FilesLeast C r m
 files_none C r m h = record {
-  on_file = λ n e. absurd (let z : ◌≡◌ {A = ℕ} 0 1 = cc in omega arith);
-  least = λ n cs e. absurd (let z : ◌≡◌ {A = ℕ} 0 1 = cc in omega arith);
+  on_file = λ n e. absurd (cc);
+  least = λ n cs e. absurd (cc);
 }
 
 module _ (next : Links) (records : Records) (places : Places) (level : ℕ) (nested : Pair → Act Reply) (p : Pair) where

@@ -99,7 +99,7 @@ module _ (next : Links) (records : Records) (places : Places) (lay : Lays next (
       mark_least : path next enodes p.from p.to ≡ None → (m : Memory) → ensured Well (Q.file_mark next records places level nested p m)
       mark_least none m =
           (file_least next records places level nested p (Open next enodes p before) (record { segments = mark p.from ∷ []; count = 0; last = p.to }) m
-          (λ cs (way, is, c). absurd (let z : ◌≡◌ {A = ℕ} 0 1 = cc in omega arith))).holds
+          (λ cs (way, is, c). absurd (cc))).holds
 
       unjoined_least : path next enodes p.from p.to ≡ None → (may : Bool) (m : Memory) → ensured Well (Q.unjoined next records places level nested p may m)
       unfolding acts
