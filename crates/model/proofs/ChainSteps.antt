@@ -5,21 +5,18 @@ use Rattle.std.specs.List.{AllByRecursion as All}
 use Rattle.model.specs.declared.items.Step.{Step}
 use Rattle.model.specs.Records.{turned}
 use Rattle.model.specs.Memory.{Segment, step, entry, mark, Entry, is_mark}
-use Rattle.model.specs.Reading.{reads, segment_steps, segments_steps, same_step, same_steps, one_way}
+use Rattle.model.specs.Reading.{reads, segment_steps, segments_steps, same_steps, one_way}
 use Rattle.model.specs.Chains.{Edge, stretch, kept, spans, best, chains, chain, first_chain}
 use Rattle.model.proofs.Steps.{turned_turned}
 use Rattle.model.proofs.Strikes.{same_step_eq}
 use Rattle.model.proofs.Growth.{Longer, longer_reads}
+use Rattle.model.proofs.PathPlaces.{drop_here}
 
 pub same_steps_eq : (xs ys : List Step) → same_steps xs ys ≡ true → xs ≡ ys
 same_steps_eq [] [] h = refl
-same_steps_eq [] (y ∷ ys) h = absurd (cc)
-same_steps_eq (x ∷ xs) [] h = absurd (cc)
-same_steps_eq (x ∷ xs) (y ∷ ys) h =
-    let p = and_parts (same_step x y) (same_steps xs ys) h in
-    let e = same_step_eq x y p.0 in
-    let r = same_steps_eq xs ys p.1 in
-    cc
+same_steps_eq [] (y ∷ ys) h = cc
+same_steps_eq (x ∷ xs) [] h = cc
+same_steps_eq (x ∷ xs) (y ∷ ys) h = let ih = same_steps_eq xs ys in let e = same_step_eq x y in grind (arith, ih, e)
 
 -- a step, or an entry on file: no chain has a mark
 abbrev pub OnFile : ℕ → Segment → Type 0
@@ -42,6 +39,10 @@ stable_one l (mark e) h = refl
 pub stable : {es more : List Entry} → Longer es more → (segs : List Segment) → All (OnFile (length es)) segs → segments_steps (reads more) segs ≡ segments_steps (reads es) segs
 stable l [] h = refl
 stable l (s ∷ segs) h = cc (stable_one l s h.0, stable l segs h.1)
+
+pub first_is : (cs : List (List Segment)) → first_chain cs ≡ get_or cs 0 []
+first_is [] = refl
+first_is (c ∷ cs) = refl
 
 module _ (es : List Entry) (ss : List Step) where
   -- an edge's segment reads as the stretch between its places
@@ -127,16 +128,6 @@ module _ (es : List Entry) (ss : List Step) where
           rw (e, best) (record { is = all; filed = (gd.filed, (ih q).filed) })
       go false e old = rw (e, best) old
 
-  drop_more : (i : ℕ) (xs : List Step) (s : Step) (rest : List Step) → drop i xs ≡ s ∷ rest → drop (suc i) xs ≡ rest
-  drop_more zero [] s rest h = absurd (cc)
-  drop_more zero (x ∷ xs) s rest h = cc
-  drop_more (suc i) [] s rest h = absurd (cc)
-  drop_more (suc i) (x ∷ xs) s rest h = drop_more i xs s rest h
-
-  first_says : (cs : List (List Segment)) (steps : List Step) → Says (get_or cs 0 []) steps → Says (first_chain cs) steps
-  first_says [] steps h = h
-  first_says (c ∷ cs) steps h = h
-
   says_none : Says [] []
   says_none = record { is = refl; filed = tt }
 
@@ -144,11 +135,11 @@ module _ (es : List Entry) (ss : List Step) where
   chains_say ds g i [] at zero = says_none
   chains_say ds g i [] at (suc k) = says_none
   chains_say ds g i (s ∷ rest) at zero =
-      let ih : (k : ℕ) → Says (get_or (chains ds (suc i) rest) k []) (drop k rest) = chains_say ds g (suc i) rest (drop_more i ss s rest at) in
-      let h = first_says (chains ds (suc i) rest) rest (ih 0) in
+      let ih : (k : ℕ) → Says (get_or (chains ds (suc i) rest) k []) (drop k rest) = chains_say ds g (suc i) rest (drop_here i ss s s rest at).2 in
+      let h : Says (first_chain (chains ds (suc i) rest)) rest = rw first_is (ih 0) in
       best_says i s rest (chains ds (suc i) rest) at ih (step s None ∷ first_chain (chains ds (suc i) rest)) (record { is = ap (λ r. s ∷ r) h.is; filed = (tt, h.filed) }) ds g
-  chains_say ds g i (s ∷ rest) at (suc k) = chains_say ds g (suc i) rest (drop_more i ss s rest at) k
+  chains_say ds g i (s ∷ rest) at (suc k) = chains_say ds g (suc i) rest (drop_here i ss s s rest at).2 k
 
   -- the chain taken reads as the path's steps
   pub chain_says : (ds : List Edge) → All Good ds → Says (chain ds ss) ss
-  chain_says ds g = first_says (chains ds 0 ss) ss (chains_say ds g 0 ss refl 0)
+  chain_says ds g = rw first_is (chains_say ds g 0 ss refl 0)

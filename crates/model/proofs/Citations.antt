@@ -1,7 +1,6 @@
 -- Which entries a segment cites, in itself and in its use list, and that more use lists and entries leave this so. Assumes nothing.
-use Rattle.std.proofs.Common.{◌≡◌, ℕ, suc, ◌+◌, ◌<◌, ◌≤◌, Bool, true, false, eqb, List, [], ◌∷◌, ◌++◌, length, get_or, Some, None, sym, refl, ap, ◌∙◌, subst, arith}
+use Rattle.std.proofs.Common.{◌≡◌, ℕ, suc, ◌+◌, ◌<◌, ◌≤◌, Bool, true, false, List, [], ◌∷◌, ◌++◌, length, get_or, Some, None, sym, refl, ap, ◌∙◌, subst, arith}
 use Rattle.std.proofs.lemmas.List.{length-append, get_or_append_left, get_or_push}
-use Rattle.std.proofs.lemmas.Bool.{and_parts, eqb-true}
 use Rattle.std.proofs.lemmas.Bool.Decides.{nat_tests}
 use Rattle.std.specs.List.{AllByRecursion as All}
 use Rattle.model.specs.Walks.{met}
@@ -63,13 +62,9 @@ use_new us n g u below =
 
 same_list_eq : (xs ys : List ℕ) → same_list xs ys ≡ true → xs ≡ ys
 same_list_eq [] [] h = refl
-same_list_eq [] (y ∷ ys) h = absurd (cc)
-same_list_eq (x ∷ xs) [] h = absurd (cc)
-same_list_eq (x ∷ xs) (y ∷ ys) h =
-    let p = and_parts (eqb x y) (same_list xs ys) h in
-    let e = eqb-true x y p.0 in
-    let r = same_list_eq xs ys p.1 in
-    cc
+same_list_eq [] (y ∷ ys) h = cc
+same_list_eq (x ∷ xs) [] h = cc
+same_list_eq (x ∷ xs) (y ∷ ys) h = let ih = same_list_eq xs ys in grind (arith, nat_tests, ih)
 
 -- an equal list is found at its number
 place_found : (u : List ℕ) (i : ℕ) (vs : List (List ℕ)) (k : ℕ) → place_of u i vs ≡ Some k → (j : ℕ) × (k ≡ i + j) × (j < length vs) × (get_or vs j [] ≡ u)

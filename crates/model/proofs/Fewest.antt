@@ -1,35 +1,21 @@
 -- Standing entries that are kept, and that the chain taken has the fewest segments. Assumes nothing.
-use Rattle.std.proofs.Common.{◌≡◌, ℕ, zero, suc, ◌+◌, ◌-◌, ◌<◌, ◌≤◌, true, false, ◌&&◌, ltb, ◌⊎◌, List, [], ◌∷◌, length, get_or, Some, None, sym, refl, ap, ◌∙◌, subst, inl, inr, arith}
+use Rattle.std.proofs.Common.{◌≡◌, ℕ, zero, suc, ◌+◌, ◌-◌, ◌<◌, ◌≤◌, ◌⊎◌, List, [], ◌∷◌, length, get_or, Some, None, sym, refl, ap, ◌∙◌, subst, inl, inr, arith}
 use mathlib.Core.List.Memᴰ
 use mathlib.Core.List.{Memᴰ}
-use Rattle.std.proofs.lemmas.Bool.{cases_Bool, and_parts, ltb-true}
 use Rattle.std.proofs.lemmas.Bool.Decides.{nat_tests}
 use Rattle.model.specs.declared.items.Step.{Step}
-use Rattle.model.specs.Records.{turned}
 use Rattle.model.specs.Paths.{Path}
-use Rattle.model.specs.Memory.{Segment, step, entry, Memory, stands}
-use Rattle.model.specs.Reading.{reads, same_steps}
-use Rattle.model.specs.Chains.{Edge, stretch, kept, best, first_chain, chains, chain}
+use Rattle.model.specs.Memory.{Segment, step, Entry, Memory, stands}
+use Rattle.model.specs.Reading.{reads}
+use Rattle.model.specs.Chains.{Edge, kept, best, first_chain, chains, chain}
 use Rattle.model.specs.RunLaws.{OpenChain, ends, by_step, by_standing}
+use Rattle.model.proofs.ChainSteps.{kept_cases, first_is}
 
 -- an edge from a look at place i rises, and has that place at one end
-pub kept_rises : (read : ℕ → List Step) (ss : List Step) (i j n : ℕ) (d : Edge) → kept read ss i j n ≡ Some d → (d.from < d.to) × ((d.from ≡ i) ⊎ (d.to ≡ i))
-kept_rises read ss i j n d h = elim (cases_Bool (ltb i j && same_steps (read n) (stretch ss i j))) [
-  | inl e ↦
-      let lt = ltb-true i j (and_parts (ltb i j) _ e).0 in
-      let is : Some (record { from = i; to = j; segment = entry n true }) ≡ Some d = rw e at h in
-      let from : i ≡ d.from = cc in
-      let to : j ≡ d.to = cc in
-      (omega arith, inl (sym from))
-  | inr e ↦ elim (cases_Bool (ltb j i && same_steps (read n) (turned (stretch ss j i)))) [
-    | inl f ↦
-        let lt = ltb-true j i (and_parts (ltb j i) _ f).0 in
-        let is : Some (record { from = j; to = i; segment = entry n false }) ≡ Some d = rw (e, f) at h in
-        let from : j ≡ d.from = cc in
-        let to : i ≡ d.to = cc in
-        (omega arith, inr (sym to))
-    | inr f ↦ let is : None ≡ Some d = rw (e, f) at h in absurd (cc)
-  ]
+pub kept_rises : (es : List Entry) (ss : List Step) (i j n : ℕ) (d : Edge) → kept (reads es) ss i j n ≡ Some d → (d.from < d.to) × ((d.from ≡ i) ⊎ (d.to ≡ i))
+kept_rises es ss i j n d h = elim (kept_cases es ss i j n d h) [
+  | inl (lt, _, is) ↦ rw is (lt, inl refl)
+  | inr (lt, _, is) ↦ rw is (lt, inr refl)
 ]
 
 best_least : (i : ℕ) (later : List (List Segment)) (so_far : List Segment) (ds : List Edge) →
@@ -46,10 +32,6 @@ best_least i later so_far (x ∷ ds) =
         | inr q ↦ omega (arith, ih.1 d q e)
       ],
     )
-
-first_is : (cs : List (List Segment)) → first_chain cs ≡ get_or cs 0 []
-first_is [] = refl
-first_is (c ∷ cs) = refl
 
 module _ (m : Memory) (way : Path) where
   -- entry n stands between two places of the path, and a look would keep it as the edge d
@@ -72,7 +54,7 @@ module _ (m : Memory) (way : Path) where
     best_chain i s later lt ih j cs at (by_step {ss = more} t l is rest) =
         omega (arith, ih 0 (j + 1) more (omega arith) rest, (best_least i later (step s None ∷ first_chain later) ds).0, ap length (first_is later))
     best_chain i s later lt ih j cs at (by_standing {ss = more} a b n d la lb st ke e rest) =
-        let rises = (kept_rises (reads m.entries) way.steps a b n d ke).0 in
+        let rises = (kept_rises m.entries way.steps a b n d ke).0 in
         let mem = has a b n d (record { first = la; second = lb; standing = st; is_kept = ke }) in
         omega (arith, ih (d.to - suc i) d.to more (omega arith) rest, (best_least i later (step s None ∷ first_chain later) ds).1 d mem (e ∙ at))
 

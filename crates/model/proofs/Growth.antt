@@ -1,7 +1,6 @@
 -- What is filed stays: more entries and more use lists change nothing of the earlier ones. Assumes nothing.
-use Rattle.std.proofs.Common.{◌≡◌, ℕ, ◌<◌, ◌≤◌, false, eqb, List, [], ◌∷◌, ◌++◌, length, sym, refl, ap, ◌∙◌, append_assoc, append-nil, arith}
+use Rattle.std.proofs.Common.{◌≡◌, ℕ, ◌<◌, ◌≤◌, List, [], ◌∷◌, ◌++◌, length, sym, refl, ap, ◌∙◌, append_assoc, append-nil, arith}
 use Rattle.std.proofs.lemmas.List.{length-append}
-use Rattle.std.proofs.lemmas.Bool.{ne_eqb}
 use Rattle.std.proofs.lemmas.Bool.Decides.{nat_tests}
 use Rattle.model.specs.Memory.{Entry, Use, entry_at, uses_of}
 use Rattle.model.specs.Reading.{reads}
@@ -23,17 +22,13 @@ longer_trans {a} {b} {c} h k = record { newer = k.newer ++ h.newer; is = k.is �
 pub longer_length : {a b : List Entry} → Longer a b → length a ≤ length b
 longer_length {a} {b} h = omega (arith, ap length h.is, length-append h.newer a)
 
--- an earlier entry is not the newest
-past : (newer es : List Entry) (n : ℕ) → n < length es → eqb n (length (newer ++ es)) ≡ false
-past newer es n lt = ne_eqb n (length (newer ++ es)) (omega (arith, length-append newer es))
-
 reads_append : (newer es : List Entry) (n : ℕ) → n < length es → reads (newer ++ es) n ≡ reads es n
 reads_append [] es n lt = refl
-reads_append (e ∷ newer) es n lt = rw (past newer es n lt, reads) (reads_append newer es n lt)
+reads_append (e ∷ newer) es n lt = let ih = reads_append newer es n lt in let l = length-append newer es in grind (arith, nat_tests)
 
 entry_append : (newer es : List Entry) (n : ℕ) → n < length es → entry_at (newer ++ es) n ≡ entry_at es n
 entry_append [] es n lt = refl
-entry_append (e ∷ newer) es n lt = rw (past newer es n lt, entry_at) (entry_append newer es n lt)
+entry_append (e ∷ newer) es n lt = let ih = entry_append newer es n lt in let l = length-append newer es in grind (arith, nat_tests)
 
 -- entries on file read as before
 pub longer_reads : {a b : List Entry} → Longer a b → (n : ℕ) → n < length a → reads b n ≡ reads a n

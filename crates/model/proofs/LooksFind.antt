@@ -15,7 +15,8 @@ use Rattle.model.specs.Questions as Q
 use Rattle.model.specs.Questions.{Places, Found}
 use Rattle.model.proofs.Fewest.{kept_rises, Keepable}
 use Rattle.model.proofs.Ensured.{ensured, ensured_more, ensured_after, ensured_bind}
-use Rattle.model.proofs.PathPlaces.{distinct_at, drop_here, Laid}
+use Rattle.model.proofs.Members.{distinct_at}
+use Rattle.model.proofs.PathPlaces.{drop_here, Laid}
 
 -- dropping one pair leaves what stands for another
 without_other : (ss : List Standing) (a b x y : ℕ) → (eqb a x && eqb b y) ≡ false → stands (without ss a b) x y ≡ stands ss x y
@@ -113,7 +114,7 @@ module _ (before : Memory) (p : Pair) (way : Path) (laid : Laid p way) where
             let ends = and_parts (eqb d.from 0) (eqb d.to size) sp in
             let first = eqb-true d.from 0 ends.0 in
             let second = eqb-true d.to size ends.1 in
-            elim (kept_rises (reads before.entries) way.steps i j n d ke).1 [ inl e ↦ absurd (omega arith) | inr e ↦ absurd (omega arith) ];
+            elim (kept_rises before.entries way.steps i j n d ke).1 [ inl e ↦ absurd (omega arith) | inr e ↦ absurd (omega arith) ];
       }
       look_added n d s ke false sp =
           goes_on (record { edges = d ∷ f.edges; spanning = None }) refl m h (λ c q. Memᴰ.tail q) (λ k c kc.
@@ -150,7 +151,7 @@ module _ (before : Memory) (p : Pair) (way : Path) (laid : Laid p way) where
       inside = λ _ _. none;
     }
     look_finds i li j (x ∷ xs) rest f none m h =
-        let here = drop_here j way.enodes x xs rest in
+        let here = drop_here j way.enodes x 0 xs rest in
         subst (λ y. ensured (Looked i j f) (Q.look next records places level way.steps i (at i) j (y ∷ xs) f m)) here.1
         (ensured_after (Looked i j f) [] _
         (look_standing i j li (omega (arith, here.0)) (Q.look next records places level way.steps i (at i) (suc j) xs) (look_finds i li (suc j) xs here.2) f none m h (stands m.standing (at i) (at j)) refl))
@@ -168,7 +169,7 @@ module _ (before : Memory) (p : Pair) (way : Path) (laid : Laid p way) where
     looks_find zero i low high es rest f none m h = record { intact = h; more = λ d q. q; found = λ a b n d le lt ke. absurd (omega arith) }
     looks_find (suc k) i low high [] rest f none m h = absurd (omega (arith, length-drop i way.enodes, ap length rest))
     looks_find (suc k) i low high (e ∷ es) rest f none m h =
-        let here = drop_here i way.enodes e es rest in
+        let here = drop_here i way.enodes e 0 es rest in
         ensured_bind (Looked i 0 f) (LookedOn i (i + suc k) f) (Q.look next records places level way.steps i e 0 way.enodes f m) _ (look_at_place i e here.1 (omega arith) f none m h) (λ g n l.
         let still = l.inside low (omega arith) in
         ensured_more (LookedOn (suc i) (suc i + k) g) (LookedOn i (i + suc k) f) _ (λ g' n' r. record {

@@ -1,8 +1,11 @@
 -- Membership by a test, and lists that have no number twice. Assumes nothing.
-use Rattle.std.proofs.Common.{◌≡◌, ℕ, zero, suc, ◌<◌, ◌≤◌, true, false, cond, ◌||◌, eqb, List, [], ◌∷◌, ◌++◌, reverse, length, sym, refl, ap, inl, inr, arith}
+use Rattle.std.proofs.Common.{◌≡◌, ℕ, ◌<◌, ◌≤◌, true, false, ◌||◌, eqb, List, [], ◌∷◌, ◌++◌, reverse, length, get_or, sym, refl, ap, ◌∙◌, inl, inr, arith}
 use mathlib.Core.List.{reverse-cons}
-use Rattle.std.proofs.lemmas.Bool.{cases_Bool, cases_eq}
+use Rattle.std.proofs.lemmas.Bool.{cases_Bool, cases_eq, cases_order, eqb-false, or_parts}
 use Rattle.std.proofs.lemmas.Bool.Decides.{nat_tests}
+use Rattle.std.proofs.lemmas.Map.Keys.{apart_from_distinct}
+use Rattle.std.proofs.lemmas.Map.Steps.{length-le_from_distinct_below}
+use Rattle.std.specs.List.{AllByRecursion as All, list_any, IsDistinct}
 use Rattle.model.specs.Walks.{met, Distinct, shares, last}
 
 pub met_head : (x : ℕ) (xs : List ℕ) → met x (x ∷ xs) ≡ true
@@ -89,29 +92,27 @@ distinct_reverse (x ∷ xs) d =
     rw reverse-cons (distinct_append (reverse xs) (x ∷ []) (distinct_reverse xs d.1) (refl, tt) (λ z h.
     let r = met_reverse z xs in grind (arith, nat_tests)))
 
--- a list with one occurrence of n less
-abbrev cut : ℕ → List ℕ → List ℕ
-cut n [] = []
-cut n (x ∷ xs) = cond (eqb x n) xs (x ∷ cut n xs)
+-- the same words in the library's
+met_any : (x : ℕ) (xs : List ℕ) → met x xs ≡ list_any (eqb x) xs
+met_any x [] = refl
+met_any x (y ∷ ys) = ap (λ b. eqb x y || b) (met_any x ys)
 
-cut_length : (n : ℕ) (xs : List ℕ) → length xs ≤ suc (length (cut n xs))
-cut_length n [] = omega arith
-cut_length n (x ∷ xs) = let ih = cut_length n xs in grind (arith, nat_tests)
+unmet : (x : ℕ) (xs : List ℕ) → met x xs ≡ false → All (λ y. eqb x y ≡ false) xs
+unmet x [] h = tt
+unmet x (y ∷ ys) h = let p = or_parts (eqb x y) (met x ys) h in (p.0, unmet x ys p.1)
 
-cut_met : (n y : ℕ) (xs : List ℕ) → met y (cut n xs) ≡ true → met y xs ≡ true
-cut_met n y [] h = h
-cut_met n y (x ∷ xs) h = let ih : met y (cut n xs) ≡ true → met y xs ≡ true = cut_met n y xs in grind (arith, nat_tests, ih)
+distinct_is : (xs : List ℕ) → Distinct xs → IsDistinct eqb xs
+unfolding IsDistinct
+distinct_is [] d = tt
+distinct_is (x ∷ xs) d = (unmet x xs d.0, distinct_is xs d.1)
 
-cut_distinct : (n : ℕ) (xs : List ℕ) → Distinct xs → Distinct (cut n xs)
-cut_distinct n [] d = tt
-cut_distinct n (x ∷ xs) d =
-    let ih : Distinct (cut n xs) = cut_distinct n xs d.1 in
-    let m : met x (cut n xs) ≡ true → met x xs ≡ true = cut_met n x xs in
-    grind (arith, nat_tests, ih, m)
-
-cut_gone : (n : ℕ) (xs : List ℕ) → Distinct xs → met n (cut n xs) ≡ false
-cut_gone n [] d = refl
-cut_gone n (x ∷ xs) d = let ih : met n (cut n xs) ≡ false = cut_gone n xs d.1 in grind (arith, nat_tests, ih)
+-- a number has one place in a list that has none twice
+pub distinct_at : (xs : List ℕ) → Distinct xs → (a b : ℕ) → a < length xs → b < length xs → get_or xs a 0 ≡ get_or xs b 0 → a ≡ b
+distinct_at xs d a b la lb e = elim (cases_order a b) [
+  | inl same ↦ same
+  | inr (inl lt) ↦ absurd (eqb-false _ _ (apart_from_distinct eqb xs a b 0 (distinct_is xs d) lt lb) e)
+  | inr (inr gt) ↦ absurd (eqb-false _ _ (apart_from_distinct eqb xs b a 0 (distinct_is xs d) gt la) (sym e))
+]
 
 -- each number of the list is below n
 abbrev pub Below : ℕ → List ℕ → Type 0
@@ -119,14 +120,7 @@ Below n xs = (y : ℕ) → met y xs ≡ true → y < n
 
 -- the pigeonhole principle: a list of numbers below n that has none twice is no longer than n
 pub distinct_short : (n : ℕ) (xs : List ℕ) → Distinct xs → Below n xs → length xs ≤ n
-distinct_short zero [] d below = omega arith
-distinct_short zero (x ∷ xs) d below = omega (arith, below x (met_head x xs))
-distinct_short (suc n) xs d below =
-    let ih : length (cut n xs) ≤ n = distinct_short n (cut n xs) (cut_distinct n xs d) (λ y h.
-    let lt : y < suc n = below y (cut_met n y xs h) in
-    let gone : met n (cut n xs) ≡ false = cut_gone n xs d in
-    grind (arith, nat_tests)) in
-    omega (arith, cut_length n xs)
+distinct_short n xs d below = length-le_from_distinct_below xs n (distinct_is xs d) (λ y h. below y (met_any y xs ∙ h))
 
 -- and if it has n of them, it has all
 pub full : (n : ℕ) (xs : List ℕ) → Distinct xs → Below n xs → n ≤ length xs → (y : ℕ) → y < n → met y xs ≡ true

@@ -1,39 +1,20 @@
 -- The places of a path, each with an enode of its own. Assumes nothing.
-use Rattle.std.proofs.Common.{◌≡◌, ℕ, zero, suc, ◌<◌, Bool, true, false, List, [], ◌∷◌, length, get_or, drop, Some, None, sym, refl, ap, ◌∙◌, subst, arith}
-use Rattle.std.proofs.lemmas.Bool.{both_ways}
-use Rattle.std.proofs.lemmas.Bool.Decides.{nat_tests}
+use Rattle.std.proofs.Common.{◌≡◌, ℕ, zero, suc, ◌<◌, Bool, List, [], ◌∷◌, length, get_or, drop, Some, None, sym, refl, ap, ◌∙◌, subst, arith}
 use Rattle.model.specs.declared.items.Pair.{Pair}
 use Rattle.model.specs.declared.items.Step.{Step}
 use Rattle.model.specs.Records.{Given}
-use Rattle.model.specs.Walks.{met, Distinct, links, last}
+use Rattle.model.specs.Walks.{Distinct, links, last}
 use Rattle.model.specs.Paths.{Path, path}
 use Rattle.model.specs.PathLaws.{arrival, Joins, meets}
-use Rattle.model.proofs.Members.{met_head}
 use Rattle.model.proofs.Links.{linked}
 use Rattle.model.proofs.Paths.{first_walk, second_walk, path_found, walks_meet, join_distinct, join_joins, join_meets}
 
--- a number's place in a list that has none twice
-met_at : (xs : List ℕ) (a : ℕ) → a < length xs → met (get_or xs a 0) xs ≡ true
-met_at [] a lt = absurd (omega arith)
-met_at (x ∷ xs) zero lt = met_head x xs
-met_at (x ∷ xs) (suc a) lt = let ih = met_at xs a (omega arith) in grind (arith, nat_tests, ih)
-
-not_met : (x : ℕ) (xs : List ℕ) (a : ℕ) → met x xs ≡ false → a < length xs → x ≡ get_or xs a 0 → ⊥
-not_met x xs a gone lt e = both_ways (met x xs) gone (ap (λ y. met y xs) e ∙ met_at xs a lt)
-
-pub distinct_at : (xs : List ℕ) → Distinct xs → (a b : ℕ) → a < length xs → b < length xs → get_or xs a 0 ≡ get_or xs b 0 → a ≡ b
-distinct_at [] d a b la lb e = absurd (omega arith)
-distinct_at (x ∷ xs) d zero zero la lb e = refl
-distinct_at (x ∷ xs) d zero (suc b) la lb e = absurd (not_met x xs b d.0 (omega arith) e)
-distinct_at (x ∷ xs) d (suc a) zero la lb e = absurd (not_met x xs a d.0 (omega arith) (sym e))
-distinct_at (x ∷ xs) d (suc a) (suc b) la lb e = ap suc (distinct_at xs d.1 a b (omega arith) (omega arith) e)
-
--- the number at a place, and those after it
-pub drop_here : (j : ℕ) (ys : List ℕ) (x : ℕ) (xs : List ℕ) → drop j ys ≡ x ∷ xs → (j < length ys) × (get_or ys j 0 ≡ x) × (drop (suc j) ys ≡ xs)
-drop_here zero [] x xs h = absurd (cc)
-drop_here zero (y ∷ ys) x xs h = (omega arith, (cc), (cc))
-drop_here (suc j) [] x xs h = absurd (cc)
-drop_here (suc j) (y ∷ ys) x xs h = let r = drop_here j ys x xs h in (omega (arith, r.0), r.1, r.2)
+-- the element at a place, and those after it
+pub drop_here : {X : Type 0} (j : ℕ) (ys : List X) (x d : X) (xs : List X) → drop j ys ≡ x ∷ xs → (j < length ys) × (get_or ys j d ≡ x) × (drop (suc j) ys ≡ xs)
+drop_here zero [] x d xs h = absurd (cc)
+drop_here zero (y ∷ ys) x d xs h = (omega arith, (cc), (cc))
+drop_here (suc j) [] x d xs h = absurd (cc)
+drop_here (suc j) (y ∷ ys) x d xs h = let r = drop_here j ys x d xs h in (omega (arith, r.0), r.1, r.2)
 
 -- how a path is laid between the ends of its pair
 pub record Laid (p : Pair) (way : Path) : Type 0 where

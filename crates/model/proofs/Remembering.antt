@@ -1,6 +1,6 @@
 -- Memories in order: what stands is on file, entries cite earlier ones, marks read as no steps. Assumes nothing.
 use Rattle.std.proofs.Common.{◌≡◌, ℕ, ◌<◌, ◌≤◌, Bool, true, false, eqb, List, [], ◌∷◌, length, Some, None, sym, refl, ap, ◌∙◌, inl, inr, append-nil, arith}
-use Rattle.std.proofs.lemmas.Bool.{cases_Bool, cases_lt, eq-eqb, ne_eqb}
+use Rattle.std.proofs.lemmas.Bool.{cases_Bool, cases_lt}
 use Rattle.std.proofs.lemmas.Bool.Decides.{nat_tests}
 use Rattle.std.specs.List.{AllByRecursion as All}
 use Rattle.model.specs.declared.items.Pair.{Pair}
@@ -40,10 +40,10 @@ sound_used m us more s = record { standing = s.standing; cited = cited_earlier_m
 
 -- the newest entry
 pub reads_newest : (e : Entry) (es : List Entry) → reads (e ∷ es) (length es) ≡ segments_steps (reads es) e.segments
-reads_newest e es = rw (eq-eqb (length es) (length es) refl, reads)
+reads_newest e es = grind (arith, nat_tests)
 
 pub newest_entry : (e : Entry) (es : List Entry) → entry_at (e ∷ es) (length es) ≡ e
-newest_entry e es = rw (eq-eqb (length es) (length es) refl, entry_at)
+newest_entry e es = grind (arith, nat_tests)
 
 -- one more entry, which stands for the pair
 abbrev pub with_entry : Pair → Entry → Memory → Memory
@@ -70,17 +70,15 @@ sound_filed m p e cites bare s = record {
 -- an entry that is not on file reads as nothing
 pub reads_past : (es : List Entry) (n : ℕ) → length es ≤ n → reads es n ≡ []
 reads_past [] n h = refl
-reads_past (e ∷ es) n h =
-    let ne : eqb n (length es) ≡ false = ne_eqb n (length es) (omega arith) in
-    rw (ne, reads) (reads_past es n (omega arith))
+reads_past (e ∷ es) n h = let ih : reads es n ≡ [] = reads_past es n (omega arith) in grind (arith, nat_tests)
 
 turned_entry_is : (segs : List Segment) (inner : ℕ) → turned_entry segs ≡ Some inner → segs ≡ entry inner false ∷ []
-turned_entry_is [] inner h = absurd (cc)
-turned_entry_is (step s u ∷ ss) inner h = absurd (cc)
-turned_entry_is (mark e ∷ ss) inner h = absurd (cc)
-turned_entry_is (entry n true ∷ ss) inner h = absurd (cc)
-turned_entry_is (entry n false ∷ []) inner h = let e : n ≡ inner = cc in cc
-turned_entry_is (entry n false ∷ t ∷ ss) inner h = absurd (cc)
+turned_entry_is [] inner h = cc
+turned_entry_is (step s u ∷ ss) inner h = cc
+turned_entry_is (mark e ∷ ss) inner h = cc
+turned_entry_is (entry n true ∷ ss) inner h = cc
+turned_entry_is (entry n false ∷ []) inner h = cc
+turned_entry_is (entry n false ∷ t ∷ ss) inner h = cc
 
 module _ (ss : List Step) (some : 0 < length ss) where
   -- an entry with steps is on file

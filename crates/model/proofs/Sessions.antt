@@ -1,9 +1,8 @@
 -- Sessions in order: the givens' ends are on the books and what is remembered is sound. Every call leaves them so. Assumes nothing.
-use Rattle.std.proofs.Common.{◌≡◌, ℕ, ◌<◌, ◌≤◌, Bool, true, false, ltb, List, [], ◌∷◌, ◌++◌, length, Some, None, Ok, Err, Result, sym, refl, subst, inl, inr, append-nil, arith}
+use Rattle.std.proofs.Common.{◌≡◌, ℕ, ◌<◌, ◌≤◌, Bool, true, false, ltb, List, [], ◌∷◌, ◌++◌, length, None, Ok, Err, Result, sym, refl, subst, inl, inr, append-nil, arith}
 use Rattle.std.proofs.lemmas.List.{length-append, get_or_append_left, get_or_push}
 use Rattle.std.proofs.lemmas.Bool.{cases_lt, ltb-true}
 use Rattle.model.specs.declared.items.Pair.{Pair}
-use Rattle.model.specs.declared.items.Step.{Step}
 use Rattle.model.specs.Records.{Enode, Kind, Given, no_given, args_of}
 use Rattle.std.proofs.lemmas.Bool.Decides.{nat_tests}
 use Rattle.model.specs.Refusals.{Refusal, short, asked}
@@ -11,8 +10,7 @@ use Rattle.model.specs.Frames as frames
 use Rattle.model.specs.Frames.{Frames, current, log_frame}
 use Rattle.model.specs.Checks.{Check, and_then, unless_refused, all_known}
 use Rattle.model.specs.Logging.{Room, Case, Outcome, pair_ends, given_checks, in_frame, new_enode, enode_added, new_given, on_frames}
-use Rattle.model.specs.Paths.{Path}
-use Rattle.model.specs.PathLaws.{Joins, EndsKnown}
+use Rattle.model.specs.PathLaws.{EndsKnown}
 use Rattle.model.specs.Memory.{Memory, Entry}
 use Rattle.model.specs.Acts.{Question, Done, done, stop}
 use Rattle.model.specs.Questions.{Places, Reply, same, on_file, filed, ask}
@@ -20,7 +18,7 @@ use Rattle.model.specs.Format as F
 use Rattle.model.specs.Format.{Call}
 use Rattle.model.specs.Runs.{Scratch, Session, empty_session, scratch_checks, links_of, Answer, number, same_enode, by_entry, refused, Turn, logged, asked_turn, permission, unless_short, turn, with_memory, Move, play, reached}
 use Rattle.model.specs.RunLaws.{size_of}
-use Rattle.model.proofs.PathLaws.{walks_lawful}
+use Rattle.model.proofs.PathPlaces.{path_laid}
 use Rattle.model.proofs.Remembering.{Sound, sound_none}
 use Rattle.model.proofs.Passing.{way_of, AnswersBy, Passes, passes_self, ComesTo, none_pending}
 use Rattle.model.proofs.Asking.{Replies, Refused, ask_does}
@@ -119,15 +117,6 @@ pub record Asked (s : Session) (p : Pair) (t : Turn) : Type 0 where
   pub says : AnswerSays s p t.after.memory.entries t.answer
 
 module _ (s : Session) (h : InOrder s) where
-  joins_some : (gs : List Given) (ss : List Step) (a b : ℕ) → Joins gs ss a b → (a ≡ b → ⊥) → 0 < length ss
-  joins_some gs [] a b j ne = absurd (ne j)
-  joins_some gs (t ∷ ss) a b j ne = omega arith
-
-  moves : (p : Pair) → p.from < size_of s → p.to < size_of s → (p.from ≡ p.to → ⊥) → (way : Path) → way_of (links_of s.case) (size_of s) p ≡ Some way → 0 < length way.steps
-  moves p la lb ne way is =
-      let laws = walks_lawful s.case.frames.counts s.case.records.givens (size_of s) h.ends in
-      joins_some s.case.records.givens way.steps p.from p.to (laws.joins p.from p.to la lb way is).0 ne
-
   went : (a : Answer) (m : Memory) (qs : List Question) → Passes (links_of s.case) (size_of s) s.memory qs m → GoesOn s (record { answer = a; after = with_memory s m; questions = qs })
   went a m qs p = record { passes = p; in_order = record { ends = h.ends; sound = p.sound }; no_fewer = omega arith }
 
@@ -147,7 +136,7 @@ module _ (s : Session) (h : InOrder s) where
     ask_asked may a b =
         let p : Pair = record { from = a; to = b } in
         unless_short_asked p _ (asked_short p (scratch_checks s) (scratch_short s)) _
-        (answered p _ (ask_does (links_of s.case) s.case.records s.places moves 33 0 (permission may) p s.memory h.sound).holds)
+        (answered p _ (ask_does (links_of s.case) s.case.records s.places (λ q la lb ne way is. (path_laid s.case.frames.counts s.case.records.givens (size_of s) q way la lb ne is).some) 33 0 (permission may) p s.memory h.sound).holds)
 
     pub turn_goes_on : (c : Call) → GoesOn s (turn limit leaves c s)
     unfolding turn

@@ -1,5 +1,5 @@
 -- Steps read from the other end, the enodes that steps meet, and steps that climb. Assumes nothing.
-use Rattle.std.proofs.Common.{◌≡◌, ℕ, Bool, true, false, not, List, [], ◌∷◌, ◌++◌, map, reverse, Some, sym, refl, ap, ◌∙◌, subst, arith}
+use Rattle.std.proofs.Common.{◌≡◌, ℕ, Bool, true, List, [], ◌∷◌, ◌++◌, map, reverse, Some, sym, refl, ap, ◌∙◌, subst, arith}
 use mathlib.Core.List.{reverse-cons, reverse-append}
 use Rattle.std.proofs.lemmas.List.{map-append}
 use Rattle.model.specs.declared.items.Link.{Link}
@@ -14,12 +14,8 @@ use Rattle.model.proofs.Walks.{Follows, follows_head, follows_on}
 abbrev pub step : ℕ → Bool → Step
 step g way = record { given = g; forward = way }
 
-not_not : (b : Bool) → not (not b) ≡ b
-not_not true = refl
-not_not false = refl
-
 pub turn_turn : (s : Step) → turn_step (turn_step s) ≡ s
-turn_turn s = ap (step s.given) (not_not s.forward)
+turn_turn s = grind arith
 
 pub turned_append : (xs ys : List Step) → turned (xs ++ ys) ≡ turned ys ++ turned xs
 turned_append xs ys = rw (reverse-append, map-append)

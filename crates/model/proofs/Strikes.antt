@@ -1,39 +1,23 @@
 -- Striking out there and back: steps as words, and their free reduction. Assumes nothing.
-use Rattle.std.proofs.Common.{◌≡◌, ℕ, Bool, true, false, cond, not, ◌&&◌, eqb, List, [], ◌∷◌, ◌++◌, sym, refl, ap, ◌∙◌, subst, inl, inr, arith}
-use Rattle.std.proofs.lemmas.Bool.{cases_Bool, and_parts, and_from, eqb-true, eq-eqb, true≢false}
+use Rattle.std.proofs.Common.{◌≡◌, ℕ, true, false, cond, List, [], ◌∷◌, ◌++◌, sym, refl, ap, ◌∙◌, subst, inl, inr, arith}
+use Rattle.std.proofs.lemmas.Bool.{cases_Bool, true≢false}
 use Rattle.std.proofs.lemmas.Bool.Decides.{nat_tests}
 use Rattle.model.specs.declared.items.Step.{Step}
 use Rattle.model.specs.Records.{Given, turn_step, turned}
 use Rattle.model.specs.Walks.{met, Distinct}
+use Rattle.model.specs.Reading.{same_step}
 use Rattle.model.specs.PathLaws.{arrival, Joins, meets, Strikes, none, one, Bare}
 use Rattle.model.proofs.Members.{met_head}
 use Rattle.model.proofs.Steps.{step, turn_turn, turned_cons, turned_turned, arrival_turn}
 
-abbrev same_way : Bool → Bool → Bool
-same_way true b = b
-same_way false b = not b
-
-abbrev pub same_step : Step → Step → Bool
-same_step s t = eqb s.given t.given && same_way s.forward t.forward
-
-same_way_eq : (a b : Bool) → same_way a b ≡ true → a ≡ b
-same_way_eq true b h = sym h
-same_way_eq false true h = h
-same_way_eq false false h = refl
-
-same_way_refl : (a : Bool) → same_way a a ≡ true
-same_way_refl true = refl
-same_way_refl false = refl
-
 pub same_step_eq : (s t : Step) → same_step s t ≡ true → s ≡ t
 same_step_eq s t h =
-    let p = and_parts (eqb s.given t.given) (same_way s.forward t.forward) h in
-    let g = eqb-true s.given t.given p.0 in
-    let w = same_way_eq s.forward t.forward p.1 in
+    let g : s.given ≡ t.given = grind (arith, nat_tests) in
+    let w : s.forward ≡ t.forward = grind (arith, nat_tests) in
     λ i. step (g i) (w i)
 
-pub same_step_refl : (s : Step) → same_step s s ≡ true
-same_step_refl s = and_from _ _ (eq-eqb s.given s.given refl) (same_way_refl s.forward)
+same_step_refl : (s : Step) → same_step s s ≡ true
+same_step_refl s = grind (arith, nat_tests)
 
 -- no two side by side are there and back
 abbrev pub Reduced : List Step → Type 0

@@ -72,13 +72,7 @@ module _ (next : Links) (root : Option ℕ) where
   walk_follows (suc room) seen e =
       let on : (l : Link) → next e ≡ Some l → Follows next e (e ∷ (walk next root room (e ∷ seen) l.to).enodes) =
       λ l h. follows_cons next e l (walk next root room (e ∷ seen) l.to).enodes h (walk_follows room (e ∷ seen) l.to) in
-      go (met e seen) (is_root root e) (next e) on
-    where
-      go : (b r : Bool) (k : Option Link) → ((l : Link) → k ≡ Some l → Follows next e (e ∷ (walk next root room (e ∷ seen) l.to).enodes)) → Follows next e (visit e (λ x. walk next root room (e ∷ seen) x) b r k).enodes
-      go true r k on = tt
-      go false true k on = refl
-      go false false None on = refl
-      go false false (Some l) on = on l refl
+      grind (arith, nat_tests, on)
 
   -- a walk ends before an enode that it has seen
   pub walk_again : (room : ℕ) (seen : List ℕ) (e : ℕ) → met e seen ≡ true → walk next root room seen e ≡ record { enodes = []; ending = again e }
