@@ -18,7 +18,7 @@ use Rattle.model.specs.Questions.{Permission, Places, Reply, same, on_file, file
 use Rattle.model.proofs.Members.{Below}
 use Rattle.model.proofs.Steps.{turned_turned}
 use Rattle.model.proofs.Growth.{Longer, longer_length}
-use Rattle.model.proofs.Citations.{Cited, UseBelow, cited_more, use_again}
+use Rattle.model.proofs.Citations.{all_weaker, Cited, UseBelow, cited_more, use_again}
 use Rattle.model.proofs.ChainSteps.{OnFile, no_mark, stable, span_start, span_end, Says, chain_says}
 use Rattle.model.proofs.Remembering.{Sound, reads_newest, newest_entry, reads_filed, reads_no_mark, reads_inner}
 use Rattle.model.proofs.Looks.{Looking, look_does, looks_does}
@@ -49,10 +49,6 @@ on_file_more : {m n : ℕ} → m ≤ n → (s : Segment) → OnFile m s → OnFi
 on_file_more le (step s u) h = tt
 on_file_more le (entry k w) h = omega arith
 on_file_more le (mark e) h = h
-
-all_on_file_more : {m n : ℕ} → m ≤ n → (ss : List Segment) → All (OnFile m) ss → All (OnFile n) ss
-all_on_file_more le [] h = tt
-all_on_file_more le (s ∷ ss) h = (on_file_more le s h.0, all_on_file_more le ss h.1)
 
 module _ (next : Links) (records : Records) (places : Places) where
   abbrev size : ℕ
@@ -159,7 +155,7 @@ module _ (next : Links) (records : Records) (places : Places) where
       settle_does [] s h = does_pure next size [] (passes_self next size s) (tt, refl)
       settle_does (t ∷ segs) s h =
           does_bind next size (settle_segment_does t s h.0) (λ r n _ pn c.
-          does_bind next size (settle_does segs pn.sound (all_on_file_more (longer_length pn.longer) segs h.1)) (λ rs o _ po d.
+          does_bind next size (settle_does segs pn.sound (all_weaker (OnFile _) (OnFile _) (on_file_more (longer_length pn.longer)) segs h.1)) (λ rs o _ po d.
           does_pure next size (r ∷ rs) (passes_self next size po.sound) ((cited_more po.uses (longer_length po.longer) r c.0, d.0), cc (c.1, d.1))))
 
       module _ (before : Memory) (from_known : p.from < size) (to_known : p.to < size) where

@@ -2,6 +2,7 @@
 use Rattle.std.proofs.Common.{◌≡◌, ℕ, suc, ◌+◌, ◌<◌, ◌≤◌, Bool, true, false, List, [], ◌∷◌, ◌++◌, length, get_or, Some, None, sym, refl, ap, ◌∙◌, subst, arith}
 use Rattle.std.proofs.lemmas.List.{length-append, get_or_append_left, get_or_push}
 use Rattle.std.proofs.lemmas.Bool.Decides.{nat_tests}
+use Rattle.std.proofs.lemmas.List.Elements.{All-weaker, All-from_recursion, recursion_from_All}
 use Rattle.std.specs.List.{AllByRecursion as All}
 use Rattle.model.specs.Walks.{met}
 use Rattle.model.specs.Memory.{Segment, step, entry, mark, Entry, Use, uses_of}
@@ -9,6 +10,9 @@ use Rattle.model.specs.Questions.{same_list, place_of}
 use Rattle.model.specs.RunLaws.{CitesBelow, AllCiteBelow, CiteEarlier}
 use Rattle.model.proofs.Members.{Below}
 use Rattle.model.proofs.Growth.{MoreUses, uses_append}
+
+pub all_weaker : {X : Type 0} (P Q : X → Type 0) → ((x : X) → P x → Q x) → (xs : List X) → All P xs → All Q xs
+all_weaker P Q f xs h = recursion_from_All Q xs (All-weaker P Q f xs (All-from_recursion P xs h))
 
 -- use list u of given g is filed, and its members are below n
 pub record UseBelow (uses : List Use) (n g u : ℕ) : Type 0 where
@@ -41,13 +45,9 @@ module _ {us vs : List Use} (more : MoreUses us vs) where
   cited_more le (entry k w) h = omega arith
   cited_more le (mark e) h = tt
 
-  pub all_cited_more : {m n : ℕ} → m ≤ n → (ss : List Segment) → All (Cited us m) ss → All (Cited vs n) ss
-  all_cited_more le [] h = tt
-  all_cited_more le (s ∷ ss) h = (cited_more le s h.0, all_cited_more le ss h.1)
-
   pub cited_earlier_more : (es : List Entry) → CitedEarlier us es → CitedEarlier vs es
   cited_earlier_more [] h = tt
-  cited_earlier_more (e ∷ es) h = (all_cited_more (omega arith) e.segments h.0, cited_earlier_more es h.1)
+  cited_earlier_more (e ∷ es) h = (all_weaker (Cited us (length es)) (Cited vs (length es)) (cited_more (omega arith)) e.segments h.0, cited_earlier_more es h.1)
 
 -- a new use list comes last of its given's
 pub use_new : (us : List Use) (n g : ℕ) (u : List ℕ) → Below n u → UseBelow (us ++ (record { given = g; members = u } ∷ [])) n g (length (uses_of g us))

@@ -16,18 +16,16 @@ says (again x) k = (l : Link) → k ≡ Some l → l.to ≡ x
 says (at_root x) k = ⊥
 
 module _ (next : Links) where
-  again_says : (p : ℕ) (l : Link) → next p ≡ Some l → says (again l.to) (next p)
-  again_says p l h k q = let same : Some k ≡ Some l = sym q ∙ h in cc
+  abbrev SaysLast : ℕ → Walk → Type 0
+  SaysLast p w = says w.ending (next (last p w.enodes))
 
-  ending_says : (room : ℕ) (seen : List ℕ) (p : ℕ) (l : Link) → next p ≡ Some l → says (walk next None room seen l.to).ending (next (last p (walk next None room seen l.to).enodes))
-  ending_says zero seen p l h = again_says p l h
-  ending_says (suc room) seen p l h =
-      let ih : (k : Link) → next l.to ≡ Some k → says (walk next None room (l.to ∷ seen) k.to).ending (next (last l.to (walk next None room (l.to ∷ seen) k.to).enodes)) = λ k q. ending_says room (l.to ∷ seen) l.to k q in
-      go (met l.to seen) (next l.to) refl ih
+  ending_says : (room : ℕ) (seen : List ℕ) (p : ℕ) (l : Link) → next p ≡ Some l → SaysLast p (walk next None room seen l.to)
+  ending_says zero seen p l h = λ k q. cc
+  ending_says (suc room) seen p l h = go (met l.to seen) (next l.to) refl (ending_says room (l.to ∷ seen) l.to)
     where
-      go : (b : Bool) (k : Option Link) → next l.to ≡ k → ((j : Link) → next l.to ≡ Some j → says (walk next None room (l.to ∷ seen) j.to).ending (next (last l.to (walk next None room (l.to ∷ seen) j.to).enodes)))
-          → says (visit l.to (λ x. walk next None room (l.to ∷ seen) x) b false k).ending (next (last p (visit l.to (λ x. walk next None room (l.to ∷ seen) x) b false k).enodes))
-      go true k q ih = again_says p l h
+      go : (b : Bool) (k : Option Link) → next l.to ≡ k → ((j : Link) → next l.to ≡ Some j → SaysLast l.to (walk next None room (l.to ∷ seen) j.to)) →
+          SaysLast p (visit l.to (λ x. walk next None room (l.to ∷ seen) x) b false k)
+      go true k q ih = λ j r. cc
       go false None q ih = q
       go false (Some j) q ih = ih j q
 

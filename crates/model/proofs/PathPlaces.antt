@@ -25,15 +25,15 @@ pub record Laid (p : Pair) (way : Path) : Type 0 where
   pub some : 0 < length way.steps
 
 -- the enodes that steps meet, by place
-meets_count : (gs : List Given) (x : ℕ) (ss : List Step) → length (meets gs x ss) ≡ suc (length ss)
+pub meets_count : (gs : List Given) (x : ℕ) (ss : List Step) → length (meets gs x ss) ≡ suc (length ss)
 meets_count gs x [] = refl
 meets_count gs x (s ∷ ss) = ap suc (meets_count gs (arrival gs s) ss)
 
-meets_first : (gs : List Given) (x : ℕ) (ss : List Step) → get_or (meets gs x ss) 0 0 ≡ x
+pub meets_first : (gs : List Given) (x : ℕ) (ss : List Step) → get_or (meets gs x ss) 0 0 ≡ x
 meets_first gs x [] = refl
 meets_first gs x (s ∷ ss) = refl
 
-meets_last : (gs : List Given) (ss : List Step) (x y : ℕ) → Joins gs ss x y → get_or (meets gs x ss) (length ss) 0 ≡ y
+pub meets_last : (gs : List Given) (ss : List Step) (x y : ℕ) → Joins gs ss x y → get_or (meets gs x ss) (length ss) 0 ≡ y
 meets_last gs [] x y h = h
 meets_last gs (s ∷ ss) x y h = meets_last gs ss (arrival gs s) y h.2
 

@@ -1,5 +1,6 @@
 -- Answers within a quiet stretch of a run are paths of the session at its end. Assumes nothing.
-use Rattle.std.proofs.Common.{◌≡◌, ℕ, ◌<◌, ◌≤◌, true, eqb, List, [], ◌∷◌, is_some, Some, None, Option, sym, refl, ap, ◌∙◌, subst, inl, inr, arith}
+use Rattle.std.proofs.Common.{◌≡◌, ℕ, suc, length, ◌<◌, ◌≤◌, true, eqb, List, [], ◌∷◌, is_some, Some, None, Option, sym, refl, ap, ◌∙◌, subst, inl, inr, arith}
+use Rattle.std.proofs.lemmas.List.{nil_from_length}
 use Rattle.std.proofs.lemmas.Bool.{both_ways}
 use Rattle.std.proofs.lemmas.Bool.Decides.{nat_tests}
 use Rattle.model.specs.declared.items.Pair.{Pair}
@@ -12,11 +13,12 @@ use Rattle.model.specs.Memory.{Entry}
 use Rattle.model.specs.Format as F
 use Rattle.model.specs.Runs.{Session, links_of, turn, Move, play, reached}
 use Rattle.model.specs.RunLaws.{size_of, ReadsAs, Answered, here, later, Quiet}
-use Rattle.model.proofs.Members.{shares_from}
+use Rattle.model.proofs.Members.{shares_from, distinct_at}
 use Rattle.model.proofs.Links.{link_within}
 use Rattle.model.proofs.Walks.{Within, walk_has_first}
 use Rattle.model.proofs.Rooms.{room_start, walk_same_room}
 use Rattle.model.proofs.Paths.{first_walk}
+use Rattle.model.proofs.PathPlaces.{meets_count, meets_first, meets_last}
 use Rattle.model.proofs.PathLaws.{walks_lawful}
 use Rattle.model.proofs.Passing.{explains, marks}
 use Rattle.model.proofs.Sessions.{InOrder, AnswerSays, Asked, ask_asked, play_goes_on}
@@ -30,16 +32,10 @@ path_more next m n within le a b la lb =
     ∙ ap (λ f. end f (root_walk next m (Some (last a f)) b).enodes) (same None a la)
 
 -- steps that come back to where they set out meet it twice
-joins_met : (gs : List Given) (ss : List Step) (x y : ℕ) → Joins gs ss x y → met y (meets gs x ss) ≡ true
-joins_met gs [] x y h = grind (arith, nat_tests)
-joins_met gs (s ∷ ss) x y h = let ih : met y (meets gs (arrival gs s) ss) ≡ true = joins_met gs ss (arrival gs s) y h.2 in grind (arith, nat_tests)
-
 joins_itself : (gs : List Given) (ss : List Step) (x : ℕ) → Joins gs ss x x → Distinct (meets gs x ss) → ss ≡ []
-joins_itself gs [] x j d = refl
-joins_itself gs (s ∷ ss) x j d =
-    let again : met x (meets gs (arrival gs s) ss) ≡ true = joins_met gs ss (arrival gs s) x j.2 in
-    let once = d.0 in
-    absurd (both_ways _ once again)
+joins_itself gs ss x j d =
+    let all : length (meets gs x ss) ≡ suc (length ss) = meets_count gs x ss in
+    nil_from_length ss (sym (distinct_at (meets gs x ss) d 0 (length ss) (omega arith) (omega arith) (meets_first gs x ss ∙ sym (meets_last gs ss x x j))))
 
 there_is : {A : Type 0} (o : Option A) → is_some o ≡ true → (a : A) × (o ≡ Some a)
 there_is (Some a) h = (a, refl)

@@ -3,10 +3,10 @@ use Rattle.std.proofs.Common.{◌≡◌, ℕ, ◌-◌, ◌<◌, true, false, Lis
 use Rattle.std.proofs.lemmas.List.{reverse-append, length-reverse, length_push}
 use Rattle.std.proofs.lemmas.Bool.Decides.{nat_tests}
 use Rattle.model.specs.declared.items.Link.{Link}
-use Rattle.model.specs.Walks.{Links, Walk, no_link, again, at_root, met, Distinct, is_root, walk, root_walk}
+use Rattle.model.specs.Walks.{Links, Walk, no_link, again, at_root, met, Distinct, is_root, visit, walk, root_walk}
 use Rattle.model.proofs.Members.{Below, met_append, met_reverse, distinct_append, distinct_reverse}
 use Rattle.model.proofs.Walks.{walk_again}
-use Rattle.model.proofs.Rooms.{Room, walk_stops, walk_ends, walk_goes_on}
+use Rattle.model.proofs.Rooms.{Room, walk_visit}
 
 -- those enodes, and then the walk
 abbrev pub after : List ℕ → Walk → Walk
@@ -51,18 +51,18 @@ module _ (next : Links) (root : Option ℕ) (size : ℕ) where
         ∙ ap (λ xs. record { enodes = xs; ending = again e }) (append-nil done)
 
     module _ (p : Partway size done) (lt : e < size) (new : met e done ≡ false) where
-      unseen : met e (reverse done) ≡ false
-      unseen = met_reverse e done ∙ new
+      visited : walk next root (size - length done) (reverse done) e ≡ visit e (λ x. walk next root (size - length done - 1) (e ∷ reverse done) x) false (is_root root e) (next e)
+      visited = walk_visit next root size (size - length done) (reverse done) e (partway_room size done p) lt ∙ rw (met_reverse e done, new)
 
       pub resume_stops : is_root root e ≡ true → resume next root size done e ≡ record { enodes = done ++ (e ∷ []); ending = at_root e }
-      resume_stops h = ap (after done) (walk_stops next root size (size - length done) (reverse done) e (partway_room size done p) lt unseen h)
+      resume_stops h = ap (after done) (visited ∙ rw h)
 
       pub resume_ends : is_root root e ≡ false → next e ≡ None → resume next root size done e ≡ record { enodes = done ++ (e ∷ []); ending = no_link }
-      resume_ends h k = ap (after done) (walk_ends next root size (size - length done) (reverse done) e (partway_room size done p) lt unseen h k)
+      resume_ends h k = ap (after done) (visited ∙ rw (h, k))
 
       pub resume_goes_on : (l : Link) → is_root root e ≡ false → next e ≡ Some l → resume next root size done e ≡ resume next root size (done ++ (e ∷ [])) l.to
       resume_goes_on l h k =
           let less : size - length done - 1 ≡ size - length (done ++ (e ∷ [])) = omega (arith, length_push done e) in
-          ap (after done) (walk_goes_on next root size (size - length done) (reverse done) e (partway_room size done p) lt unseen l h k)
+          ap (after done) (visited ∙ rw (h, k))
           ∙ after_cons done e (walk next root (size - length done - 1) (e ∷ reverse done) l.to)
           ∙ (λ i. after (done ++ (e ∷ [])) (walk next root (less i) (sym (reverse-append done (e ∷ [])) i) l.to))

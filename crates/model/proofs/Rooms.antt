@@ -42,17 +42,6 @@ module _ (next : Links) (root : Option ℕ) (size : ℕ) where
       let less : room ≡ suc room - 1 = omega arith in
       ap (λ n. visit e (λ x. walk next root n (e ∷ seen) x) (met e seen) (is_root root e) (next e)) less
 
-  module _ (room : ℕ) (seen : List ℕ) (e : ℕ) (r : Room size room seen) (lt : e < size) (new : met e seen ≡ false) where
-    pub walk_stops : is_root root e ≡ true → walk next root room seen e ≡ record { enodes = e ∷ []; ending = at_root e }
-    walk_stops h = walk_visit room seen e r lt ∙ rw (new, h)
-
-    pub walk_ends : is_root root e ≡ false → next e ≡ None → walk next root room seen e ≡ record { enodes = e ∷ []; ending = no_link }
-    walk_ends h k = walk_visit room seen e r lt ∙ rw (new, h, k)
-
-    pub walk_goes_on : (l : Link) → is_root root e ≡ false → next e ≡ Some l →
-        walk next root room seen e ≡ record { enodes = e ∷ (walk next root (room - 1) (e ∷ seen) l.to).enodes; ending = (walk next root (room - 1) (e ∷ seen) l.to).ending }
-    walk_goes_on l h k = walk_visit room seen e r lt ∙ rw (new, h, k)
-
   module _ (within : Within next size) where
     -- more room than enough changes nothing
     pub walk_same_room : (m n : ℕ) (seen : List ℕ) (e : ℕ) → Room size m seen → Room size n seen → e < size → walk next root m seen e ≡ walk next root n seen e

@@ -17,34 +17,11 @@ use Rattle.model.specs.Questions.{Places, Permission, Reply, ask_at, ask, below}
 use Rattle.model.specs.Runs.{Scratch, Session, links_of, Turn, scratch_checks, logged, asked_turn, permission, unless_short, turn}
 use Rattle.model.specs.RunLaws.{Each, size_of, OpenChain, FilesShortest, ShortestFiled}
 use Rattle.model.proofs.Traces.{left_by, told_by, Kept, Keeps, halt, keep_answer, keep_checked}
+use Rattle.model.proofs.Growth.{Longer, longer_self, longer_one, longer_trans, longer_length, longer_entry}
+use Rattle.model.proofs.Passing.{each_append, each_map}
 use Rattle.model.proofs.Ensured.{ensured, ensured_more, ensured_after}
 use Rattle.model.proofs.PathPlaces.{Laid, path_laid}
 use Rattle.model.proofs.Shortest.{FilesLeast, files_none, file_least, joined_least}
-
--- entries on file stay as they are
-record Grown (older newer : List Entry) : Type 0 where
-  longer : length older ≤ length newer
-  same : (n : ℕ) → n < length older → entry_at newer n ≡ entry_at older n
-
-grown_trans : (a b c : List Entry) → Grown a b → Grown b c → Grown a c
-grown_trans a b c g h = let le = g.longer in record {
-  longer = omega (arith, h.longer);
-  same = λ n lt. h.same n (omega arith) ∙ g.same n lt;
-}
-
-grown_more : (e : Entry) (es : List Entry) → Grown es (e ∷ es)
-grown_more e es = record {
-  longer = omega arith;
-  same = λ n lt. rw (ne_eqb n (length es) (omega arith));
-}
-
-each_append : (P : Question → Type 0) (qs rs : List Question) → Each P qs → Each P rs → Each P (qs ++ rs)
-each_append P [] rs h k = k
-each_append P (q ∷ qs) rs h k = (h.0, each_append P qs rs h.1 k)
-
-each_more : (P S : Question → Type 0) → ((q : Question) → P q → S q) → (qs : List Question) → Each P qs → Each S qs
-each_more P S f [] h = tt
-each_more P S f (q ∷ qs) h = (f q h.0, each_more P S f qs h.1)
 
 -- the chains open to a question
 abbrev Open : Links → ℕ → Pair → Memory → List Segment → Type 0
@@ -55,32 +32,29 @@ record WellFiled (next : Links) (size : ℕ) (es : List Entry) (q : Question) : 
   on_file : (n : ℕ) → q.filed ≡ Some n → n < length es
   least : (n : ℕ) (cs : List Segment) → q.filed ≡ Some n → Open next size q.pair q.before cs → length (entry_at es n).segments ≤ length cs
 
-well_filed_later : (next : Links) (size : ℕ) (a b : List Entry) → Grown a b → (q : Question) → WellFiled next size a q → WellFiled next size b q
-well_filed_later next size a b g q h = record {
-  on_file = λ n e. omega (arith, h.on_file n e, g.longer);
-  least = λ n cs e o. rw (g.same n (h.on_file n e)) (h.least n cs e o);
+well_filed_later : (next : Links) (size : ℕ) {a b : List Entry} → Longer a b → (q : Question) → WellFiled next size a q → WellFiled next size b q
+well_filed_later next size l q h = record {
+  on_file = λ n e. omega (arith, h.on_file n e, longer_length l);
+  least = λ n cs e o. rw (longer_entry l n (h.on_file n e)) (h.least n cs e o);
 }
 
 -- asking files entries alone, and each question told is well filed
 record Asks (next : Links) (size : ℕ) (before after : Memory) (qs : List Question) : Type 0 where
-  grown : Grown before.entries after.entries
+  longer : Longer before.entries after.entries
   told : Each (WellFiled next size after.entries) qs
 
 asks_kept : (next : Links) (size : ℕ) → Kept (Asks next size)
 unfolding acts
 asks_kept next size = record {
-  self = λ m. record { grown = same_entries m; told = tt };
+  self = λ m. record { longer = longer_self m.entries; told = tt };
   chained = λ a b c qs rs h k. record {
-    grown = grown_trans _ _ _ h.grown k.grown;
-    told = each_append (WellFiled next size c.entries) qs rs (each_more _ _ (well_filed_later next size b.entries c.entries k.grown) qs h.told) k.told;
+    longer = longer_trans h.longer k.longer;
+    told = each_append (WellFiled next size c.entries) qs rs (each_map _ _ (well_filed_later next size k.longer) qs h.told) k.told;
   };
-  dropped = λ x y m. record { grown = same_entries m; told = tt };
-  filed = λ p e m. record { grown = grown_more e m.entries; told = tt };
-  used = λ g u m. record { grown = same_entries m; told = tt };
+  dropped = λ x y m. record { longer = longer_self m.entries; told = tt };
+  filed = λ p e m. record { longer = longer_one e m.entries; told = tt };
+  used = λ g u m. record { longer = longer_self m.entries; told = tt };
 }
-  where
-    same_entries : (m : Memory) → Grown m.entries m.entries
-    same_entries m = record { longer = omega arith; same = λ n lt. refl }
 
 -- every path between differing enodes is laid between them
 abbrev Lays : Links → ℕ → Type 0
@@ -146,13 +120,13 @@ module _ (next : Links) (records : Records) (places : Places) (lay : Lays next (
     noted_asks : (d : Done Reply) → Asks next enodes before (left_by d) (told_by d) → ensured Well d →
         Asks next enodes before (left_by (Q.noted next records places level p before d)) (told_by (Q.noted next records places level p before d))
     noted_asks (done r m qs) h w = record {
-      grown = h.grown;
+      longer = h.longer;
       told = each_append _ qs _ h.told (record { on_file = w.on_file; least = w.least }, tt);
     }
     noted_asks (stop r m qs) h w =
         let none = files_none (Open next enodes p before) (Q.same p.from) m refl in
         record {
-          grown = h.grown;
+          longer = h.longer;
           told = each_append _ qs _ h.told (record { on_file = none.on_file; least = none.least }, tt);
         }
 
@@ -191,8 +165,8 @@ well_filed_shortest : (s : Session) (es : List Entry) (q : Question) → WellFil
 well_filed_shortest s es q w = record { shortest = λ n way cs e _ is c. w.least n cs e (way, is, c) }
 
 asked_shortest : (s : Session) (d : Done Reply) → Each (WellFiled (links_of s.case) (size_of s) (left_by d).entries) (told_by d) → HoldsOf s (asked_turn s d)
-asked_shortest s (done r m qs) h = each_more _ _ (well_filed_shortest s m.entries) qs h
-asked_shortest s (stop r m qs) h = each_more _ _ (well_filed_shortest s m.entries) qs h
+asked_shortest s (done r m qs) h = each_map _ _ (well_filed_shortest s m.entries) qs h
+asked_shortest s (stop r m qs) h = each_map _ _ (well_filed_shortest s m.entries) qs h
 
 unless_short_shortest : (c : Check) (s : Session) (t : Turn) → HoldsOf s t → HoldsOf s (unless_short c s t)
 unless_short_shortest (Ok _) s t h = h

@@ -93,14 +93,6 @@ module _ (next : Links) (root : Option ℕ) where
       let any : (y : ℕ) → met x (walk next root room (e ∷ seen) y).enodes ≡ true → last e (walk next root room (e ∷ seen) y).enodes ≡ last y (walk next root room (e ∷ seen) y).enodes = λ y m. last_any x e y (walk next root room (e ∷ seen) y).enodes m in
       grind (arith, nat_tests, ih, any)
 
-  -- of what it has seen a walk knows only which enodes it has met
-  pub walk_same_seen : (room : ℕ) (seen seen' : List ℕ) (e : ℕ) → ((x : ℕ) → met x seen ≡ met x seen') → walk next root room seen e ≡ walk next root room seen' e
-  walk_same_seen zero seen seen' e same = refl
-  walk_same_seen (suc room) seen seen' e same =
-      let ih : (y : ℕ) → walk next root room (e ∷ seen) y ≡ walk next root room (e ∷ seen') y = λ y. walk_same_seen room (e ∷ seen) (e ∷ seen') y (λ x. ap (λ b. eqb x e || b) (same x)) in
-      ap (λ b. visit e (λ x. walk next root room (e ∷ seen) x) b (is_root root e) (next e)) (same e)
-      ∙ visit_same e (λ x. walk next root room (e ∷ seen) x) (λ x. walk next root room (e ∷ seen') x) (met e seen') (is_root root e) (next e) (λ l _ _. ih l.to)
-
   -- a root walk begins with its enode
   pub walk_begins : (size e : ℕ) → e < size → (xs : List ℕ) × ((root_walk next size root e).enodes ≡ e ∷ xs)
   walk_begins zero e lt = absurd (omega arith)
