@@ -82,8 +82,12 @@ module _ (next : Links) (size : ℕ) where
     pub filed : Each (FilesFor n.entries) qs
     pub by_questions : (k : ℕ) → length m.entries ≤ k → k < length n.entries → Each (λ q. q.filed ≡ Some k → ⊥) qs → ⊥
 
+  -- where no entry is filed
+  pub passes_same : {m n : Memory} → n.entries ≡ m.entries → MoreUses m.uses n.uses → Sound n → Passes m [] n
+  passes_same {m} {n} same uses s = record { longer = record { newer = []; is = same }; uses = uses; sound = s; filed = tt; by_questions = λ k low high _. omega (arith, ap length same) }
+
   pub passes_self : {m : Memory} → Sound m → Passes m [] m
-  passes_self {m} s = record { longer = longer_self m.entries; uses = more_self m.uses; sound = s; filed = tt; by_questions = λ k low high _. omega arith }
+  passes_self {m} s = passes_same refl (more_self m.uses) s
 
   pub passes_trans : {m n o : Memory} {qs rs : List Question} → Passes m qs n → Passes n rs o → Passes m (qs ++ rs) o
   passes_trans {m} {n} {o} {qs} {rs} h k = record {
@@ -163,17 +167,13 @@ module _ (next : Links) (size : ℕ) where
   -- the three writes
   pub does_drop : {S : Refusal → Type 0} {m : Memory} (a b : ℕ) → Sound m → Does none_pending (λ _ n. n.entries ≡ m.entries) S (drop_pair a b) m
   unfolding acts
-  does_drop {S} {m} a b s = record {
-    holds = (record { longer = longer_self m.entries; uses = more_self m.uses; sound = sound_dropped m a b s; filed = tt; by_questions = λ k low high _. omega arith }, refl);
-  }
+  does_drop {S} {m} a b s = record { holds = (passes_same refl (more_self m.uses) (sound_dropped m a b s), refl) }
 
   pub does_use : {S : Refusal → Type 0} {m : Memory} (g : ℕ) (u : List ℕ) → Sound m → Below (length m.entries) u → Does none_pending (λ k n. UseBelow n.uses (length n.entries) g k) S (put_use g u) m
   unfolding acts
   does_use {S} {m} g u s below =
       let more : MoreUses m.uses (m.uses ++ (record { given = g; members = u } ∷ [])) = record { newer = record { given = g; members = u } ∷ []; is = refl } in
-      record {
-        holds = (record { longer = longer_self m.entries; uses = more; sound = sound_used m _ more s; filed = tt; by_questions = λ k low high _. omega arith }, use_new m.uses (length m.entries) g u below);
-      }
+      record { holds = (passes_same refl more (sound_used m _ more s), use_new m.uses (length m.entries) g u below) }
 
   -- a question that files one entry
   pub passes_filed : {m : Memory} (e : Entry) (q : Question) → q.filed ≡ Some (length m.entries) → Sound m →

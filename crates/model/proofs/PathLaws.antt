@@ -16,7 +16,7 @@ use Rattle.model.proofs.Endings.{Terminal, walk_terminal, walk_told}
 use Rattle.model.proofs.Ancestors.{ancestor_trans, closed_ancestor, follows_ancestor, last_ancestor}
 use Rattle.model.proofs.Strikes.{Reduced, reduce, reduce_reduced, reduce_append, reduce_forth, reduced_same, bare_from_reduced, struck_out, joins_reduced}
 use Rattle.model.proofs.Confluence.{join_over}
-use Rattle.model.proofs.Paths.{Meeting, join_turned, rises, falls, join_distinct, join_reduces, join_joins, join_meets, first_walk, second_walk, path_found, path_made, walks_meet}
+use Rattle.model.proofs.Paths.{Meeting, join_turned, rising_follows, falling_follows, rises, falls, join_distinct, join_reduces, join_joins, join_meets, first_walk, second_walk, path_found, path_made, walks_meet}
 
 some_if_true : {A : Type 0} (b : Bool) (x : A) → is_some (some_if b x) ≡ b
 some_if_true true x = refl
@@ -87,18 +87,15 @@ module _ (next : Links) (size : ℕ) (within : Within next size) where
       let falling = m.together.falling in
       let top = m.together.top in
       let tail = m.together.tail in
-      let first = m.together.first_is in
-      let second = m.together.second_is in
-      let from_a : Follows next a (rising ++ (top ∷ tail)) = subst (Follows next a) first m.from_first in
-      let from_b : Follows next b (falling ++ (top ∷ tail)) = subst (Follows next b) second m.from_second in
+      let from_a = rising_follows next a b (W a) (W b) m in
       let in_a = met_append top rising (top ∷ tail) in
       let in_b = met_append top falling (top ∷ tail) in
       record {
         of_first = follows_ancestor next a top (rising ++ (top ∷ tail)) from_a (grind (arith, nat_tests));
-        of_second = follows_ancestor next b top (falling ++ (top ∷ tail)) from_b (grind (arith, nat_tests));
+        of_second = follows_ancestor next b top (falling ++ (top ∷ tail)) (falling_follows next a b (W a) (W b) m) (grind (arith, nat_tests));
         nearest = λ z above_a above_b.
-            let z_a : met z (rising ++ (top ∷ tail)) ≡ true = subst (λ w. met z w ≡ true) first (has_ancestors a z la above_a) in
-            let z_b : met z (falling ++ (top ∷ tail)) ≡ true = subst (λ w. met z w ≡ true) second (has_ancestors b z lb above_b) in
+            let z_a : met z (rising ++ (top ∷ tail)) ≡ true = subst (λ w. met z w ≡ true) m.together.first_is (has_ancestors a z la above_a) in
+            let z_b : met z (falling ++ (top ∷ tail)) ≡ true = subst (λ w. met z w ≡ true) m.together.second_is (has_ancestors b z lb above_b) in
             let p = met_append z rising (top ∷ tail) in
             let q = met_append z falling (top ∷ tail) in
             let apart : met z rising ≡ true → met z falling ≡ false = m.together.apart z in

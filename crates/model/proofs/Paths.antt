@@ -47,10 +47,10 @@ module _ (next : Links) (a b : ℕ) (f t : List ℕ) (m : Meeting next a b f t) 
   abbrev tail : List ℕ
   tail = m.together.tail
 
-  rising_follows : Follows next a (rising ++ (top ∷ tail))
+  pub rising_follows : Follows next a (rising ++ (top ∷ tail))
   rising_follows = subst (Follows next a) m.together.first_is m.from_first
 
-  falling_follows : Follows next b (falling ++ (top ∷ tail))
+  pub falling_follows : Follows next b (falling ++ (top ∷ tail))
   falling_follows = subst (Follows next b) m.together.second_is m.from_second
 
   pub rises : Climbs next (map (up next) rising) a top

@@ -37,15 +37,18 @@ explained s p entries n h f plain = elim f.answers.says [
 ]
 
 module _ (limit : ℕ) (room : Room) (places : Places) (scratch : Scratch) where
-  in_order : (ms : List Move) → InOrder (reached limit (start limit room places scratch) ms)
+  abbrev upto : List Move → Session
+  upto ms = reached limit (start limit room places scratch) ms
+
+  in_order : (ms : List Move) → InOrder (upto ms)
   in_order ms = start_in_order limit room places scratch ms
 
-  goes_on : (ms : List Move) (m : Move) → GoesOn (reached limit (start limit room places scratch) ms) (play limit (reached limit (start limit room places scratch) ms) m)
-  goes_on ms m = play_goes_on limit (reached limit (start limit room places scratch) ms) m (in_order ms)
+  goes_on : (ms : List Move) (m : Move) → GoesOn (upto ms) (play limit (upto ms) m)
+  goes_on ms m = play_goes_on limit (upto ms) m (in_order ms)
 
   pub filed_for_good : FiledForGood limit room places scratch
   filed_for_good ms more =
-      let g = grows limit (reached limit (start limit room places scratch) ms) more (in_order ms) in
+      let g = grows limit (upto ms) more (in_order ms) in
       ((g.0.newer, g.0.is), (g.1.newer, g.1.is))
 
   pub citations_earlier : CitationsEarlier limit room places scratch
@@ -53,7 +56,7 @@ module _ (limit : ℕ) (room : Room) (places : Places) (scratch : Scratch) where
 
   pub explanations_read : ExplanationsRead limit room places scratch
   explanations_read ms m =
-      let s = reached limit (start limit room places scratch) ms in
+      let s = upto ms in
       let t = play limit s m in
       let entries = t.after.memory.entries in
       each_map (FilesFor (links_of s.case) (size_of s) entries) (Files s entries) (λ q f. record { explains = λ n filed plain. explained s q.pair entries n (in_order ms) (f n filed) plain }) t.questions (goes_on ms m).passes.filed
@@ -63,7 +66,7 @@ module _ (limit : ℕ) (room : Room) (places : Places) (scratch : Scratch) where
 
   module _ (ms : List Move) (m : Move) (may a b : ℕ) (call : m.call ≡ F.ask may a b) where
     abbrev s : Session
-    s = reached limit (start limit room places scratch) ms
+    s = upto ms
 
     abbrev t : Turn
     t = play limit s m
@@ -115,14 +118,14 @@ module _ (limit : ℕ) (room : Room) (places : Places) (scratch : Scratch) where
 
   module _ (ms quiet : List Move) where
     abbrev e : Session
-    e = reached limit (reached limit (start limit room places scratch) ms) quiet
+    e = reached limit (upto ms) quiet
 
     at_end : InOrder e
-    at_end = reached_in_order limit (reached limit (start limit room places scratch) ms) quiet (in_order ms)
+    at_end = reached_in_order limit (upto ms) quiet (in_order ms)
 
   pub answers_turn : AnswersTurn limit room places scratch
   answers_turn ms quiet a b ab ba stays no_circle h k =
-      let s = reached limit (start limit room places scratch) ms in
+      let s = upto ms in
       let p = answered_path limit s quiet a b ab (in_order ms) stays h in
       let q = answered_path limit s quiet b a ba (in_order ms) stays k in
       let law = (laws_of (e ms quiet) (at_end ms quiet)).turns a b p.from_known p.to_known p.way no_circle p.is in
@@ -131,7 +134,7 @@ module _ (limit : ℕ) (room : Room) (places : Places) (scratch : Scratch) where
 
   pub answers_compose : AnswersCompose limit room places scratch
   answers_compose ms quiet a b c ab bc ac stays no_circle h k j zs strikes bare =
-      let s = reached limit (start limit room places scratch) ms in
+      let s = upto ms in
       let p = answered_path limit s quiet a b ab (in_order ms) stays h in
       let q = answered_path limit s quiet b c bc (in_order ms) stays k in
       let r = answered_path limit s quiet a c ac (in_order ms) stays j in
