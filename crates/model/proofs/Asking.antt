@@ -1,5 +1,6 @@
 -- What a question does: how it leads from one memory to the next, what it answers, and when it is refused. Assumes nothing.
-use Rattle.std.proofs.Common.{◌≡◌, ℕ, zero, suc, ◌-◌, ◌<◌, ◌≤◌, Bool, true, false, eqb, List, [], ◌∷◌, ◌++◌, map, length, drop, Some, None, Option, sym, refl, ap, ◌∙◌, subst, append-nil, arith}
+use Rattle.std.proofs.Common.{◌≡◌, ◌⊎◌, inl, inr, ℕ, zero, suc, ◌-◌, ◌<◌, ◌≤◌, Bool, true, false, eqb, List, [], ◌∷◌, ◌++◌, map, length, drop, Some, None, Option, sym, refl, ap, ◌∙◌, subst, append-nil, arith}
+use Rattle.std.proofs.lemmas.List.{length-map}
 use Rattle.std.proofs.lemmas.Bool.{both_ways, ltb-true, eqb-true, eqb-false}
 use Rattle.std.proofs.lemmas.Bool.Decides.{nat_tests}
 use Rattle.std.specs.List.{AllByRecursion as All}
@@ -12,6 +13,7 @@ use Rattle.model.specs.Paths.{Path}
 use Rattle.model.specs.Memory.{Segment, step, entry, mark, Entry, Memory, stands, uses_of, entry_at, is_mark, turned_entry}
 use Rattle.model.specs.Reading.{reads, segment_steps, segments_steps}
 use Rattle.model.specs.Chains.{chain}
+use Rattle.model.specs.RunLaws.{OpenChain}
 use Rattle.model.specs.Acts.{Question, Act, Done, done, stop, pure}
 use Rattle.model.specs.Questions as Q
 use Rattle.model.specs.Questions.{Permission, Places, Reply, same, on_file, filed, filed_by, Found, none_found, entry_table, segment_table, pair_table, list_table, member_table, place_of, below, ask_at}
@@ -21,7 +23,9 @@ use Rattle.model.proofs.Growth.{Longer, longer_length}
 use Rattle.model.proofs.Citations.{all_weaker, Cited, UseBelow, cited_more, use_again}
 use Rattle.model.proofs.ChainSteps.{OnFile, no_mark, stable, span_start, span_end, Says, chain_says}
 use Rattle.model.proofs.Remembering.{Sound, reads_newest, newest_entry, reads_filed, reads_no_mark, reads_inner}
-use Rattle.model.proofs.Looks.{Looking, look_does, looks_does}
+use Rattle.model.proofs.PathPlaces.{Laid}
+use Rattle.model.proofs.Fewest.{open_some, chain_least}
+use Rattle.model.proofs.Looks.{Looked, looking_as, place_does, looks_does}
 use Rattle.model.proofs.Passing.{way_of, SaysOf, explains, marks, AnswersBy, FiledFor, Passes, passes_self, passes_trans, passes_told, passes_filed, ComesTo, Does, none_pending, does_bind, does_pure, does_refuse, does_read, does_need, does_use, does_put}
 
 -- a segment without the number of its use list
@@ -82,7 +86,7 @@ module _ (next : Links) (records : Records) (places : Places) where
       Answers act m = Does next size own (Replies p) (Refused p level) act m
 
       file_does : (e : Entry) {m : Memory} → Sound m → All (Cited m.uses (length m.entries)) e.segments → (is_mark e.segments ≡ true → segments_steps (reads m.entries) e.segments ≡ []) →
-          FiledFor next size (e ∷ m.entries) p (length m.entries) → Answers (Q.file next records places level p e) m
+          FiledFor next size (e ∷ m.entries) (note (Some (length m.entries))) (length m.entries) → Answers (Q.file next records places level p e) m
       file_does e {m} s cites marked f =
           does_read next size _
           (does_need next size _ _ s (full_refused entry_table) (λ _.
@@ -172,6 +176,7 @@ module _ (next : Links) (records : Records) (places : Places) where
                 answers = record { from_known = from_known; to_known = to_known; on_file = omega arith; says = marks none (ap (λ (x : Entry). is_mark x.segments) (newest_entry e m.entries)) };
                 count = λ way q. absurd (cc);
                 ends_at = ap (λ (x : Entry). x.last) (newest_entry e m.entries);
+                least = λ way cs q c. absurd (cc);
               })
 
           if_mark_does : (n : ℕ) {m : Memory} → Sound m → n < length m.entries → (b : Bool) → is_mark (entry_at m.entries n).segments ≡ b → Answers before (Q.if_mark next records places level nested p n b) m
@@ -187,16 +192,23 @@ module _ (next : Links) (records : Records) (places : Places) where
           unjoined_does true {m} s = does_read next size _ (marked_does s (stands m.standing p.from p.to) refl)
 
         -- a path with steps
-        module _ (way : Path) (is : way_of next size p ≡ Some way) (some : 0 < length way.steps) where
+        module _ (way : Path) (is : way_of next size p ≡ Some way) (laid : Laid p way) where
           abbrev ss : List Step
           ss = way.steps
 
-          spanning_does : (n : ℕ) {m : Memory} → Sound m → reads m.entries n ≡ ss → Answers before (pure (on_file n)) m
-          spanning_does n {m} s h = on_file_does n s (reads_filed ss some m.entries n h) (explains way is h (reads_no_mark ss some m s n h))
+          abbrev es : List Entry
+          es = before.entries
 
-          settled_does : (segs ts : List Segment) (m : Memory) {n : Memory} → Sound n → Longer m.entries n.entries → Says m.entries ss segs ss → Settled segs ts n →
+          -- no open chain has fewer segments
+          abbrev Fewest : List Segment → Type 0
+          Fewest segs = (cs : List Segment) → OpenChain before way 0 cs → length segs ≤ length cs
+
+          spanning_does : (n : ℕ) {m : Memory} → Sound m → reads m.entries n ≡ ss → Answers before (pure (on_file n)) m
+          spanning_does n {m} s h = on_file_does n s (reads_filed ss laid.some m.entries n h) (explains way is h (reads_no_mark ss laid.some m s n h))
+
+          settled_does : (segs ts : List Segment) (m : Memory) {n : Memory} → Sound n → Longer m.entries n.entries → Says m.entries ss segs ss → Fewest segs → Settled segs ts n →
               Answers before (Q.file next records places level p (record { segments = ts; count = length ss; last = p.to })) n
-          settled_does segs ts m {n} s l h (cites, same_bare) =
+          settled_does segs ts m {n} s l h fewest (cites, same_bare) =
               let e : Entry = record { segments = ts; count = length ss; last = p.to } in
               let plain : is_mark ts ≡ false = sym (is_mark_bare ts) ∙ ap is_mark same_bare ∙ is_mark_bare segs ∙ no_mark (length m.entries) segs h.filed in
               let read : segments_steps (reads n.entries) ts ≡ ss =
@@ -206,50 +218,58 @@ module _ (next : Links) (records : Records) (places : Places) where
                 answers = record { from_known = from_known; to_known = to_known; on_file = omega arith; says = explains way is (reads_newest e n.entries ∙ read) (ap (λ (x : Entry). is_mark x.segments) newest ∙ plain) };
                 count = λ other q. ap (λ (x : Entry). x.count) newest ∙ (let same_way : way ≡ other = cc in ap (λ (w : Path). length w.steps) same_way);
                 ends_at = ap (λ (x : Entry). x.last) newest;
+                least = λ other cs q c.
+                    let fewer = fewest cs (subst (λ (w : Path). OpenChain before w 0 cs) (let same_way : other ≡ way = cc in same_way) c) in
+                    omega (arith, ap (λ (x : Entry). length x.segments) newest, ap length same_bare, length-map ts bare, length-map segs bare);
               })
 
-          explain_does : (segs : List Segment) {m : Memory} → Sound m → Says m.entries ss segs ss → Answers before (Q.settle_and_file next records places level nested p (length ss) segs) m
-          explain_does segs {m} s h = does_bind next size (settle_does segs s h.filed) (λ ts n _ pn settled. settled_does segs ts m pn.sound pn.longer h settled)
+          explain_does : (segs : List Segment) {m : Memory} → Sound m → Says m.entries ss segs ss → Fewest segs → Answers before (Q.settle_and_file next records places level nested p (length ss) segs) m
+          explain_does segs {m} s h fewest = does_bind next size (settle_does segs s h.filed) (λ ts n _ pn settled. settled_does segs ts m pn.sound pn.longer h fewest settled)
 
           -- an entry that spans the path from its end
           abbrev Back : List Entry → ℕ → Type 0
-          Back es n = (reads es n ≡ turned ss) × (n < length es)
+          Back all n = (reads all n ≡ turned ss) × (n < length all)
 
           turn_round_does : (e : ℕ) {m : Memory} → Sound m → Back m.entries e → (o : Option ℕ) → turned_entry (entry_at m.entries e).segments ≡ o → Answers before (Q.turn_round next records places level nested p (length ss) e o) m
-          turn_round_does e {m} s b (Some inner) t = spanning_does inner s (reads_inner ss some m.entries e inner t b.0)
-          turn_round_does e {m} s b None t = explain_does (entry e false ∷ []) s (record { is = append-nil (turned (reads m.entries e)) ∙ ap turned b.0 ∙ turned_turned ss; filed = (b.1, tt) })
+          turn_round_does e {m} s b (Some inner) t = spanning_does inner s (reads_inner ss laid.some m.entries e inner t b.0)
+          turn_round_does e {m} s b None t = explain_does (entry e false ∷ []) s (record { is = append-nil (turned (reads m.entries e)) ∙ ap turned b.0 ∙ turned_turned ss; filed = (b.1, tt) }) (λ cs c. open_some before way cs laid.some c)
 
-          from_end_does : (es : List Entry) (f : Found) {m : Memory} → Sound m → Looking next records places level (Refused p level) es ss (Back es) f m → (o : Option ℕ) → f.spanning ≡ o → Answers before (Q.from_end next records places level nested p way f o) m
-          from_end_does es f {m} s l (Some e) q =
+          abbrev EndsSeen : ℕ → ℕ → Type 0
+          EndsSeen a b = (⊥ ⊎ (a ≡ 0)) ⊎ (a ≡ length ss)
+
+          from_end_does : (f : Found) {m : Memory} → Sound m → Looked before p way laid EndsSeen (Back es) f m → (o : Option ℕ) → f.spanning ≡ o → Answers before (Q.from_end next records places level nested p way f o) m
+          from_end_does f {m} s l (Some e) q =
               does_read next size _ (turn_round_does e s (subst (λ (x : List Entry). Back x e) (sym l.entries) (l.spanning e q)) (turned_entry (entry_at m.entries e).segments) refl)
-          from_end_does es f {m} s l None q =
-              does_bind next size (looks_does next records places level (Refused p level) es ss way.enodes (length ss - 1) 1 (drop 1 way.enodes) f s (record { entries = l.entries; edges = l.edges; spanning = λ n e. tt })) (λ g n _ pn k.
-              explain_does (chain g.edges ss) pn.sound (subst (λ (x : List Entry). Says x ss (chain g.edges ss) ss) (sym k.entries) (chain_says es ss g.edges k.edges)))
-
-          from_start_does : (es : List Entry) (f : Found) {m : Memory} → Sound m → Looking next records places level (Refused p level) es ss (λ n. reads es n ≡ ss) f m → (o : Option ℕ) → f.spanning ≡ o → Answers before (Q.from_start next records places level nested p way f o) m
-          from_start_does es f s l (Some e) q = spanning_does e s (subst (λ (x : List Entry). reads x e ≡ ss) (sym l.entries) (l.spanning e q))
-          from_start_does es f s l None q =
+          from_end_does f {m} s l None q =
               does_bind next size
-              (look_does next records places level (Refused p level) es ss (Back es) (length ss) p.to (λ j n d lt h t. (span_end es ss j n d h t, lt)) 0 way.enodes f s
-              (record { entries = l.entries; edges = l.edges; spanning = λ n e. absurd (cc) }))
-              (λ g n _ pn k. from_end_does es g pn.sound k g.spanning refl)
+              (looks_does before p way laid next records places level (Refused p level) (length ss - 1) 1 (omega arith) (omega (arith, laid.some)) (drop 1 way.enodes) refl f s
+              (looking_as before p way laid (λ a b n d r _. elim r [ inl lt ↦ inl (inr (omega arith)) | inr e ↦ inr e ]) (l.goes_on q))) (λ g n _ pn k.
+              explain_does (chain g.edges ss) pn.sound (subst (λ (x : List Entry). Says x ss (chain g.edges ss) ss) (sym k.entries) (chain_says es ss g.edges k.edges))
+              (chain_least before way g.edges (λ a b n d ke. k.found a b n d tt ke)))
 
-          joined_does : {m : Memory} → Sound m → Answers before (Q.joined next records places level nested p way) m
-          joined_does {m} s =
+          from_start_does : (f : Found) {m : Memory} → Sound m → Looked before p way laid (λ a b. ⊥ ⊎ (a ≡ 0)) (λ n. reads es n ≡ ss) f m → (o : Option ℕ) → f.spanning ≡ o → Answers before (Q.from_start next records places level nested p way f o) m
+          from_start_does f s l (Some e) q = spanning_does e s (subst (λ (x : List Entry). reads x e ≡ ss) (sym l.entries) (l.spanning e q))
+          from_start_does f s l None q =
               does_bind next size
-              (look_does next records places level (Refused p level) m.entries ss (λ n. reads m.entries n ≡ ss) 0 p.from (λ j n d lt h t. span_start m.entries ss j n d h t) 0 way.enodes none_found s
-              (record { entries = refl; edges = tt; spanning = λ n e. absurd (cc) }))
-              (λ f n _ pn l. from_start_does m.entries f pn.sound l f.spanning refl)
+              (place_does before p way laid next records places level (Refused p level) (λ a b. ⊥ ⊎ (a ≡ 0)) (Back es) (length ss) (omega arith) (λ j n d lt h t. (span_end es ss j n d h t, lt)) p.to laid.last f s (l.goes_on q))
+              (λ g n _ pn k. from_end_does g pn.sound k g.spanning refl)
 
-        answer_does : (may : Bool) → ((way : Path) → way_of next size p ≡ Some way → 0 < length way.steps) → {m : Memory} → Sound m → Answers before (Q.answer next records places level nested p may) m
-        answer_does may moves {m} s = go (way_of next size p) refl
+          joined_does : Sound before → Answers before (Q.joined next records places level nested p way) before
+          joined_does s =
+              does_bind next size
+              (place_does before p way laid next records places level (Refused p level) (λ a b. ⊥) (λ n. reads es n ≡ ss) 0 (omega arith) (λ j n d lt h t. span_start es ss j n d h t) p.from laid.first none_found s
+              (record { entries = refl; standing = λ a b n d ke. ke.standing; edges = tt; found = λ a b n d no. absurd no; none = refl }))
+              (λ f n _ pn l. from_start_does f pn.sound l f.spanning refl)
+
+        answer_does : (may : Bool) → ((way : Path) → way_of next size p ≡ Some way → Laid p way) → Sound before → Answers before (Q.answer next records places level nested p may) before
+        answer_does may lay s = go (way_of next size p) refl
           where
-            go : (o : Option Path) → way_of next size p ≡ o → Answers before (Q.by_path next records places level nested p may o) m
+            go : (o : Option Path) → way_of next size p ≡ o → Answers before (Q.by_path next records places level nested p may o) before
             go None e = unjoined_does e may s
-            go (Some way) e = joined_does way e (moves way e) s
+            go (Some way) e = joined_does way e (lay way e) s
 
   -- a question leads on from a memory in order
-  module _ (moves : (p : Pair) → p.from < size → p.to < size → (p.from ≡ p.to → ⊥) → (way : Path) → way_of next size p ≡ Some way → 0 < length way.steps) where
+  module _ (lay : (p : Pair) (way : Path) → p.from < size → p.to < size → (p.from ≡ p.to → ⊥) → way_of next size p ≡ Some way → Laid p way) where
     pub ask_does : (left level : ℕ) (may : Permission) (p : Pair) (m : Memory) → Sound m → Does next size none_pending (Replies p) (Refused p level) (ask_at next records places left level may p) m
     unfolding ask_at
     ask_does zero level may p m s =
@@ -257,4 +277,4 @@ module _ (next : Links) (records : Records) (places : Places) where
     ask_does (suc left) level may p m s =
         let nested : Pair → Act Reply = ask_at next records places left (suc level) (below may) in
         let hn : (q : Pair) (n : Memory) → Sound n → Does next size none_pending (Replies q) (Refused q (suc level)) (nested q) n = ask_does left (suc level) (below may) in
-        put_does level p _ m s (λ la lb ne. answer_does level p nested hn m la lb may.start (moves p la lb ne) s)
+        put_does level p _ m s (λ la lb ne. answer_does level p nested hn m la lb may.start (λ way is. lay p way la lb ne is) s)

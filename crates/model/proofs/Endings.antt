@@ -1,5 +1,5 @@
 -- Where a walk ends, and walks that are told their end. Assumes nothing.
-use Rattle.std.proofs.Common.{◌≡◌, ℕ, zero, suc, ◌<◌, Bool, true, false, List, [], ◌∷◌, Some, None, Option, sym, refl, ap, ◌∙◌, arith}
+use Rattle.std.proofs.Common.{◌≡◌, ℕ, zero, suc, ◌<◌, Bool, true, false, List, [], ◌∷◌, Some, None, Option, refl, ap, ◌∙◌, arith}
 use Rattle.std.proofs.lemmas.Bool.Decides.{nat_tests}
 use Rattle.model.specs.declared.items.Link.{Link}
 use Rattle.model.specs.Walks.{Links, Walk, Ending, no_link, again, at_root, met, visit, walk, root_walk, last, NoCircle}

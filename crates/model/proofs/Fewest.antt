@@ -33,6 +33,12 @@ best_least i later so_far (x ∷ ds) =
       ],
     )
 
+-- an open chain over some steps has a segment
+pub open_some : (m : Memory) (way : Path) (cs : List Segment) → 0 < length way.steps → OpenChain m way 0 cs → 1 ≤ length cs
+open_some m way cs lt (ends e) = absurd (omega arith)
+open_some m way cs lt (by_step s l is rest) = omega arith
+open_some m way cs lt (by_standing a b n d la lb st ke e rest) = omega arith
+
 module _ (m : Memory) (way : Path) where
   -- entry n stands between two places of the path, and a look would keep it as the edge d
   pub record Keepable (a b n : ℕ) (d : Edge) : Type 0 where

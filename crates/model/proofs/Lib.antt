@@ -23,9 +23,5 @@ pub mod QuietRuns
 pub mod RunLaws
 pub mod WorkedCases
 pub mod Fewest
-pub mod Traces
-pub mod Ensured
 pub mod PathPlaces
-pub mod LooksFind
-pub mod Shortest
 pub mod ShortestFiled

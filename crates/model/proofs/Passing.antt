@@ -6,10 +6,10 @@ use Rattle.model.specs.declared.items.Pair.{Pair}
 use Rattle.model.specs.Refusals.{Refusal}
 use Rattle.model.specs.Walks.{Links}
 use Rattle.model.specs.Paths.{Path, path}
-use Rattle.model.specs.Memory.{Entry, Memory, entry_at, is_mark}
+use Rattle.model.specs.Memory.{Segment, Entry, Memory, without, entry_at, is_mark}
 use Rattle.model.specs.Reading.{reads, segments_steps}
 use Rattle.model.specs.Acts.{Question, Act, Done, done, stop, after, and_then, ◌>>=◌, ◌>>◌, pure, refuse_with, need, memory, drop_pair, put_entry, put_use, acts}
-use Rattle.model.specs.RunLaws.{Each}
+use Rattle.model.specs.RunLaws.{Each, OpenChain}
 use Rattle.model.proofs.Members.{Below}
 use Rattle.model.proofs.Growth.{Longer, longer_self, longer_one, longer_trans, longer_length, longer_reads, longer_entry, MoreUses, more_self, more_trans}
 use Rattle.model.proofs.Citations.{Cited, UseBelow, use_new}
@@ -47,32 +47,35 @@ module _ (next : Links) (size : ℕ) where
     pub on_file : n < length entries
     pub says : SaysOf entries p n
 
-  pub record FiledFor (entries : List Entry) (p : Pair) (n : ℕ) : Type 0 where
-    pub answers : AnswersBy entries p n
-    pub count : (way : Path) → way_of p ≡ Some way → (entry_at entries n).count ≡ length way.steps
-    pub ends_at : (entry_at entries n).last ≡ p.to
+  -- what a question filed answers its pair, and has no more segments than any chain open to the question
+  pub record FiledFor (entries : List Entry) (q : Question) (n : ℕ) : Type 0 where
+    pub answers : AnswersBy entries q.pair n
+    pub count : (way : Path) → way_of q.pair ≡ Some way → (entry_at entries n).count ≡ length way.steps
+    pub ends_at : (entry_at entries n).last ≡ q.pair.to
+    pub least : (way : Path) (cs : List Segment) → way_of q.pair ≡ Some way → OpenChain q.before way 0 cs → length (entry_at entries n).segments ≤ length cs
 
   says_later : {es more : List Entry} → Longer es more → (p : Pair) (n : ℕ) → n < length es → SaysOf es p n → SaysOf more p n
   says_later l p n lt (explains way q r k) = explains way q (longer_reads l n lt ∙ r) (ap (λ (e : Entry). is_mark e.segments) (longer_entry l n lt) ∙ k)
   says_later l p n lt (marks q k) = marks q (ap (λ (e : Entry). is_mark e.segments) (longer_entry l n lt) ∙ k)
 
-  filed_later : {es more : List Entry} → Longer es more → (p : Pair) (n : ℕ) → FiledFor es p n → FiledFor more p n
-  filed_later l p n h =
+  filed_later : {es more : List Entry} → Longer es more → (q : Question) (n : ℕ) → FiledFor es q n → FiledFor more q n
+  filed_later l q n h =
       let lt = h.answers.on_file in
       record {
         answers = record {
           from_known = h.answers.from_known;
           to_known = h.answers.to_known;
           on_file = omega (arith, lt, longer_length l);
-          says = says_later l p n lt h.answers.says;
+          says = says_later l q.pair n lt h.answers.says;
         };
-        count = λ way q. ap (λ (e : Entry). e.count) (longer_entry l n lt) ∙ h.count way q;
+        count = λ way is. ap (λ (e : Entry). e.count) (longer_entry l n lt) ∙ h.count way is;
         ends_at = ap (λ (e : Entry). e.last) (longer_entry l n lt) ∙ h.ends_at;
+        least = λ way cs is c. rw (longer_entry l n lt) (h.least way cs is c);
       }
 
   -- what a question filed is for its pair
   abbrev pub FilesFor : List Entry → Question → Type 0
-  FilesFor entries q = (n : ℕ) → q.filed ≡ Some n → FiledFor entries q.pair n
+  FilesFor entries q = (n : ℕ) → q.filed ≡ Some n → FiledFor entries q n
 
   -- the questions lead from memory m to memory n, which is in order
   pub record Passes (m : Memory) (qs : List Question) (n : Memory) : Type 0 where
@@ -94,7 +97,7 @@ module _ (next : Links) (size : ℕ) where
     longer = longer_trans h.longer k.longer;
     uses = more_trans h.uses k.uses;
     sound = k.sound;
-    filed = each_append (FilesFor o.entries) qs rs (each_map (FilesFor n.entries) (FilesFor o.entries) (λ q f i e. filed_later k.longer q.pair i (f i e)) qs h.filed) k.filed;
+    filed = each_append (FilesFor o.entries) qs rs (each_map (FilesFor n.entries) (FilesFor o.entries) (λ q f i e. filed_later k.longer q i (f i e)) qs h.filed) k.filed;
     by_questions = λ i low high e. elim (cases_lt i (length n.entries)) [
       | inl lt ↦ h.by_questions i low lt (each_parts (λ q. q.filed ≡ Some i → ⊥) qs rs e).0
       | inr ge ↦ k.by_questions i ge high (each_parts (λ q. q.filed ≡ Some i → ⊥) qs rs e).1
@@ -165,9 +168,9 @@ module _ (next : Links) (size : ℕ) where
     does_need {m} false r {g} s h k = record { holds = (passes_self s, h) }
 
   -- the three writes
-  pub does_drop : {S : Refusal → Type 0} {m : Memory} (a b : ℕ) → Sound m → Does none_pending (λ _ n. n.entries ≡ m.entries) S (drop_pair a b) m
+  pub does_drop : {S : Refusal → Type 0} {m : Memory} (a b : ℕ) → Sound m → Does none_pending (λ _ n. (n.entries ≡ m.entries) × (n.standing ≡ without m.standing a b)) S (drop_pair a b) m
   unfolding acts
-  does_drop {S} {m} a b s = record { holds = (passes_same refl (more_self m.uses) (sound_dropped m a b s), refl) }
+  does_drop {S} {m} a b s = record { holds = (passes_same refl (more_self m.uses) (sound_dropped m a b s), (refl, refl)) }
 
   pub does_use : {S : Refusal → Type 0} {m : Memory} (g : ℕ) (u : List ℕ) → Sound m → Below (length m.entries) u → Does none_pending (λ k n. UseBelow n.uses (length n.entries) g k) S (put_use g u) m
   unfolding acts
@@ -178,12 +181,12 @@ module _ (next : Links) (size : ℕ) where
   -- a question that files one entry
   pub passes_filed : {m : Memory} (e : Entry) (q : Question) → q.filed ≡ Some (length m.entries) → Sound m →
       All (Cited m.uses (length m.entries)) e.segments → (is_mark e.segments ≡ true → segments_steps (reads m.entries) e.segments ≡ []) →
-      FiledFor (e ∷ m.entries) q.pair (length m.entries) → Passes m (q ∷ []) (with_entry q.pair e m)
+      FiledFor (e ∷ m.entries) q (length m.entries) → Passes m (q ∷ []) (with_entry q.pair e m)
   passes_filed {m} e q is s cites bare f = record {
     longer = longer_one e m.entries;
     uses = more_self m.uses;
     sound = sound_filed m q.pair e cites bare s;
-    filed = ((λ n h. let same : length m.entries ≡ n = cc in subst (FiledFor (e ∷ m.entries) q.pair) same f), tt);
+    filed = ((λ n h. let same : length m.entries ≡ n = cc in subst (FiledFor (e ∷ m.entries) q) same f), tt);
     by_questions = λ k low high none. let same : length m.entries ≡ k = omega arith in none.0 (is ∙ ap Some same);
   }
 

@@ -10,7 +10,7 @@ use Rattle.model.specs.Paths.{Path, up, join, some_if, path}
 use Rattle.model.specs.PathLaws.{Joins, meets, Strikes, Bare, Ancestor, Nearest, OverNearest, WalksLawful}
 use Rattle.model.proofs.Members.{met_append, shares_from, shared_by}
 use Rattle.model.proofs.Links.{Linked, linked, link_within}
-use Rattle.model.proofs.Walks.{Within, Follows, follows_from, walk_follows, walk_distinct, walk_short, walk_has_first, walk_has_last, root_last}
+use Rattle.model.proofs.Walks.{Within, follows_from, walk_follows, walk_distinct, walk_short, walk_has_first, walk_has_last, root_last}
 use Rattle.model.proofs.Rooms.{Closed, walk_closed}
 use Rattle.model.proofs.Endings.{Terminal, walk_terminal, walk_told}
 use Rattle.model.proofs.Ancestors.{ancestor_trans, closed_ancestor, follows_ancestor, last_ancestor}

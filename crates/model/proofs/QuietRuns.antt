@@ -2,13 +2,12 @@
 use Rattle.std.proofs.Common.{◌≡◌, ℕ, suc, length, ◌<◌, ◌≤◌, true, eqb, List, [], ◌∷◌, is_some, Some, None, Option, sym, refl, ap, ◌∙◌, subst, inl, inr, arith}
 use Rattle.std.proofs.lemmas.List.{nil_from_length}
 use Rattle.std.proofs.lemmas.Bool.{both_ways}
-use Rattle.std.proofs.lemmas.Bool.Decides.{nat_tests}
 use Rattle.model.specs.declared.items.Pair.{Pair}
 use Rattle.model.specs.declared.items.Step.{Step}
 use Rattle.model.specs.Records.{Given}
-use Rattle.model.specs.Walks.{Links, links, met, Distinct, root_walk, last, check_eq}
+use Rattle.model.specs.Walks.{Links, links, Distinct, root_walk, last, check_eq}
 use Rattle.model.specs.Paths.{Path, path, join, some_if}
-use Rattle.model.specs.PathLaws.{Joins, meets, arrival, WalkLaws}
+use Rattle.model.specs.PathLaws.{Joins, meets, WalkLaws}
 use Rattle.model.specs.Memory.{Entry}
 use Rattle.model.specs.Format as F
 use Rattle.model.specs.Runs.{Session, links_of, turn, Move, play, reached}

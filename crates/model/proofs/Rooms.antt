@@ -1,8 +1,8 @@
 -- Walks with room for the enodes not seen yet: how one goes on, and what its enodes link to. Assumes nothing.
-use Rattle.std.proofs.Common.{◌≡◌, ℕ, zero, suc, ◌+◌, ◌-◌, ◌<◌, ◌≤◌, true, false, ◌||◌, List, [], ◌∷◌, length, Some, None, Option, sym, ap, ◌∙◌, subst, arith}
+use Rattle.std.proofs.Common.{◌≡◌, ℕ, zero, suc, ◌+◌, ◌-◌, ◌<◌, ◌≤◌, true, false, ◌||◌, List, [], ◌∷◌, length, Some, Option, sym, ap, ◌∙◌, subst, arith}
 use Rattle.std.proofs.lemmas.Bool.Decides.{nat_tests}
 use Rattle.model.specs.declared.items.Link.{Link}
-use Rattle.model.specs.Walks.{Links, no_link, at_root, met, Distinct, is_root, visit, walk, root_walk}
+use Rattle.model.specs.Walks.{Links, met, Distinct, is_root, visit, walk, root_walk}
 use Rattle.model.proofs.Members.{Below, distinct_short, full}
 use Rattle.model.proofs.Walks.{Within, visit_same, walk_again}
 

@@ -8,6 +8,7 @@ use Rattle.model.specs.Paths.{Path, path}
 use Rattle.model.specs.PathLaws.{Strikes}
 use Rattle.model.specs.Memory.{Entry, entry_at, is_mark}
 use Rattle.model.specs.Format as F
+use Rattle.model.specs.Acts.{Question}
 use Rattle.model.specs.Logging.{Room}
 use Rattle.model.specs.Questions.{Places}
 use Rattle.model.specs.Runs.{Scratch, Session, links_of, Answer, number, same_enode, by_entry, refused, Turn, turn, Move, play, reached}
@@ -28,10 +29,10 @@ grows limit s (m ∷ ms) h =
     (longer_trans one.passes.longer rest.0, more_trans one.passes.uses rest.1)
 
 -- what is filed for a pair explains it, unless it is a mark
-explained : (s : Session) (p : Pair) (entries : List Entry) (n : ℕ) → InOrder s → FiledFor (links_of s.case) (size_of s) entries p n → is_mark (entry_at entries n).segments ≡ false → Explains s p entries n
-explained s p entries n h f plain = elim f.answers.says [
+explained : (s : Session) (q : Question) (entries : List Entry) (n : ℕ) → InOrder s → FiledFor (links_of s.case) (size_of s) entries q n → is_mark (entry_at entries n).segments ≡ false → Explains s q.pair entries n
+explained s q entries n h f plain = elim f.answers.says [
   | explains way is steps _ ↦
-      let joins = (laws_of s h).joins p.from p.to f.answers.from_known f.answers.to_known way is in
+      let joins = (laws_of s h).joins q.pair.from q.pair.to f.answers.from_known f.answers.to_known way is in
       record { way = way; is_path = is; steps = steps; count = f.count way is; ends_at = f.ends_at; joins = joins.0; once = joins.2 }
   | marks _ marked ↦ absurd (both_ways _ plain marked)
 ]
@@ -59,7 +60,7 @@ module _ (limit : ℕ) (room : Room) (places : Places) (scratch : Scratch) where
       let s = upto ms in
       let t = play limit s m in
       let entries = t.after.memory.entries in
-      each_map (FilesFor (links_of s.case) (size_of s) entries) (Files s entries) (λ q f. record { explains = λ n filed plain. explained s q.pair entries n (in_order ms) (f n filed) plain }) t.questions (goes_on ms m).passes.filed
+      each_map (FilesFor (links_of s.case) (size_of s) entries) (Files s entries) (λ q f. record { explains = λ n filed plain. explained s q entries n (in_order ms) (f n filed) plain }) t.questions (goes_on ms m).passes.filed
 
   pub filed_by_questions : FiledByQuestions limit room places scratch
   filed_by_questions ms m n = (goes_on ms m).passes.by_questions n

@@ -136,7 +136,7 @@ module _ (s : Session) (h : InOrder s) where
     ask_asked may a b =
         let p : Pair = record { from = a; to = b } in
         unless_short_asked p _ (asked_short p (scratch_checks s) (scratch_short s)) _
-        (answered p _ (ask_does (links_of s.case) s.case.records s.places (λ q la lb ne way is. (path_laid s.case.frames.counts s.case.records.givens (size_of s) q way la lb ne is).some) 33 0 (permission may) p s.memory h.sound).holds)
+        (answered p _ (ask_does (links_of s.case) s.case.records s.places (path_laid s.case.frames.counts s.case.records.givens (size_of s)) 33 0 (permission may) p s.memory h.sound).holds)
 
     pub turn_goes_on : (c : Call) → GoesOn s (turn limit leaves c s)
     unfolding turn
