@@ -78,7 +78,7 @@ module _ (counts : ℕ → Bool) (gs : List Given) (e : ℕ) (l : Link) (is : li
           (p ∙ ap Some same, rw (← same) at)
 
   -- a link follows the newest given of its enode whose frame counts
-  pub link_newest : Newest (counting counts e) gs (length gs) l.given
+  link_newest : Newest (counting counts e) gs (length gs) l.given
   link_newest = newest_found (counting counts e) gs (length gs) l.given parts.0
 
   pub linked : Linked gs e l

@@ -105,7 +105,7 @@ module _ (before : Memory) (p : Pair) (way : Path) (laid : Laid p way) where
             subst (λ y. held i j y ≡ Some d) one ke.is_kept
 
         added_does : (n : ℕ) (d : Edge) → n < length before.entries → stands m.standing (at i) (at j) ≡ Some n → held i j n ≡ Some d → (b : Bool) → spans end d ≡ b → Looks (Q.added next records places level n f on d b) m
-        added_does n d lt q ke true sp = does_pure next size _ (passes_self next size s) (record {
+        added_does n d lt q ke true sp = does_pure _ (passes_self s) (record {
           entries = h.entries;
           spanning = λ k t. let one : n ≡ k = cc in subst W one (w j n d lt ke sp);
           goes_on = λ e. absurd (cc);
@@ -120,7 +120,7 @@ module _ (before : Memory) (p : Pair) (way : Path) (laid : Laid p way) where
 
         judged_does : (n : ℕ) → n < length before.entries → stands m.standing (at i) (at j) ≡ Some n → (o : Option Edge) → held i j n ≡ o → Looks (Q.judged next records places level end (at i) (at j) n f on o) m
         judged_does n lt q None lost =
-            does_then next size (does_drop next size (at i) (at j) s) (λ _ o _ po same. rest f o po.sound (record {
+            does_then (does_drop (at i) (at j) s) (λ _ o _ po same. rest f o po.sound (record {
               entries = same.0 ∙ h.entries;
               standing = λ a b k d ke. ap (λ ss. stands ss (at a) (at b)) same.1 ∙ dropped_stands h i j n li lj q lost a b k d ke;
               edges = h.edges;
@@ -138,12 +138,12 @@ module _ (before : Memory) (p : Pair) (way : Path) (laid : Laid p way) where
           none = h.none;
         })
         standing_does (Some n) q =
-            does_read next size _
+            does_read _
             (subst (λ (r : List Entry). Looks (Q.judged next records places level end (at i) (at j) n f on (kept (reads r) way.steps i j n)) m) (sym h.entries)
             (judged_does n (subst (λ (r : List Entry). n < length r) h.entries (s.standing (at i) (at j) n q)) q (held i j n) refl))
 
       look_does : (j : ℕ) (xs : List ℕ) → drop j way.enodes ≡ xs → (f : Found) {m : Memory} → Sound m → Looking (Row j) f m → Looks (Q.look next records places level way.steps i (at i) j xs f) m
-      look_does j [] rest f s h = does_pure next size f (passes_self next size s) (record {
+      look_does j [] rest f s h = does_pure f (passes_self s) (record {
         entries = h.entries;
         spanning = λ n q. absurd (let none = h.none in cc);
         goes_on = λ _. looking_as (λ a b n d r ke. elim r [
@@ -154,7 +154,7 @@ module _ (before : Memory) (p : Pair) (way : Path) (laid : Laid p way) where
       look_does j (x ∷ xs) rest f {m} s h =
           let here = drop_here j way.enodes x 0 xs rest in
           subst (λ y. Looks (Q.look next records places level way.steps i (at i) j (y ∷ xs) f) m) here.1
-          (does_read next size _ (standing_does j (omega (arith, here.0, laid.count)) (Q.look next records places level way.steps i (at i) (suc j) xs) (λ g n. look_does (suc j) xs here.2 g {m = n}) f m s h (stands m.standing (at i) (at j)) refl))
+          (does_read _ (standing_does j (omega (arith, here.0, laid.count)) (Q.look next records places level way.steps i (at i) (suc j) xs) (λ g n. look_does (suc j) xs here.2 g {m = n}) f m s h (stands m.standing (at i) (at j)) refl))
 
       -- a look at place i, whose enode is e
       pub place_does : (e : ℕ) → at i ≡ e → (f : Found) {m : Memory} → Sound m → Looking seen f m → Looks (Q.look next records places level way.steps i e 0 way.enodes f) m
@@ -166,11 +166,11 @@ module _ (before : Memory) (p : Pair) (way : Path) (laid : Laid p way) where
     pub looks_does : (k i : ℕ) → 0 < i → i + k ≡ end → (es : List ℕ) → drop i way.enodes ≡ es → (f : Found) {m : Memory} → Sound m → Looking (λ a b. (a < i) ⊎ (a ≡ end)) f m →
         Does next size none_pending (Looking (λ a b. Unit {0})) S (Q.looks next records places level way.steps way.enodes k i es f) m
     looks_does zero i low all es rest f s h =
-        does_pure next size f (passes_self next size s) (looking_as (λ a b n d _ ke. elim (cases_eq a end) [ inl e ↦ inr e | inr ne ↦ inl (omega (arith, ke.first)) ]) h)
+        does_pure f (passes_self s) (looking_as (λ a b n d _ ke. elim (cases_eq a end) [ inl e ↦ inr e | inr ne ↦ inl (omega (arith, ke.first)) ]) h)
     looks_does (suc k) i low all [] rest f s h = absurd (omega (arith, laid.count, length-drop i way.enodes, ap length rest))
     looks_does (suc k) i low all (e ∷ es) rest f s h =
         let here = drop_here i way.enodes e 0 es rest in
-        does_bind next size (place_does (λ a b. (a < i) ⊎ (a ≡ end)) (λ n. ⊥) i (omega arith) inside e here.1 f s h) (λ g n _ pn l.
+        does_bind (place_does (λ a b. (a < i) ⊎ (a ≡ end)) (λ n. ⊥) i (omega arith) inside e here.1 f s h) (λ g n _ pn l.
         looks_does k (suc i) (omega arith) (omega arith) es here.2 g pn.sound (looking_as (λ a b c d r _. elim r [
           | inl lt ↦ elim (cases_eq a i) [ inl q ↦ inr q | inr ne ↦ inl (inl (omega arith)) ]
           | inr q ↦ inl (inr q)

@@ -16,11 +16,11 @@ use Rattle.model.proofs.Citations.{Cited, UseBelow, use_new}
 use Rattle.model.proofs.Remembering.{Sound, with_entry, sound_dropped, sound_used, sound_filed}
 
 module _ (P : Question → Type 0) where
-  pub each_append : (qs rs : List Question) → Each P qs → Each P rs → Each P (qs ++ rs)
+  each_append : (qs rs : List Question) → Each P qs → Each P rs → Each P (qs ++ rs)
   each_append [] rs h k = k
   each_append (q ∷ qs) rs h k = (h.0, each_append qs rs h.1 k)
 
-  pub each_parts : (qs rs : List Question) → Each P (qs ++ rs) → Each P qs × Each P rs
+  each_parts : (qs rs : List Question) → Each P (qs ++ rs) → Each P qs × Each P rs
   each_parts [] rs h = (tt, h)
   each_parts (q ∷ qs) rs h = let more = each_parts qs rs h.1 in ((h.0, more.0), more.1)
 
@@ -54,11 +54,33 @@ module _ (next : Links) (size : ℕ) where
     pub ends_at : (entry_at entries n).last ≡ q.pair.to
     pub least : (way : Path) (cs : List Segment) → way_of q.pair ≡ Some way → OpenChain q.before way 0 cs → length (entry_at entries n).segments ≤ length cs
 
-  says_later : {es more : List Entry} → Longer es more → (p : Pair) (n : ℕ) → n < length es → SaysOf es p n → SaysOf more p n
+  -- what a question filed is for its pair
+  abbrev pub FilesFor : List Entry → Question → Type 0
+  FilesFor entries q = (n : ℕ) → q.filed ≡ Some n → FiledFor entries q n
+
+  -- the questions lead from memory m to memory n, which is in order
+  pub record Passes (m : Memory) (qs : List Question) (n : Memory) : Type 0 where
+    pub longer : Longer m.entries n.entries
+    pub uses : MoreUses m.uses n.uses
+    pub sound : Sound n
+    pub filed : Each (FilesFor n.entries) qs
+    pub by_questions : (k : ℕ) → length m.entries ≤ k → k < length n.entries → Each (λ q. q.filed ≡ Some k → ⊥) qs → ⊥
+
+  -- what an act comes to: the questions told, with those that its answer has yet to tell, lead on, and its answer or refusal is as it should be
+  abbrev pub ComesTo : {A : Type 0} → (A → List Question) → (A → Memory → Type 0) → (Refusal → Type 0) → Memory → Done A → Type 0
+  ComesTo pending Q S m (done a n qs) = Passes m (qs ++ pending a) n × Q a n
+  ComesTo pending Q S m (stop r n qs) = Passes m qs n × S r
+
+  -- a record, so that antt reads the act off the type
+  pub record Does {A : Type 0} (pending : A → List Question) (Q : A → Memory → Type 0) (S : Refusal → Type 0) (act : Act A) (m : Memory) : Type 0 where
+    pub holds : ComesTo pending Q S m (act m)
+
+module _ {next : Links} {size : ℕ} where
+  says_later : {es more : List Entry} → Longer es more → (p : Pair) (n : ℕ) → n < length es → SaysOf next size es p n → SaysOf next size more p n
   says_later l p n lt (explains way q r k) = explains way q (longer_reads l n lt ∙ r) (ap (λ (e : Entry). is_mark e.segments) (longer_entry l n lt) ∙ k)
   says_later l p n lt (marks q k) = marks q (ap (λ (e : Entry). is_mark e.segments) (longer_entry l n lt) ∙ k)
 
-  filed_later : {es more : List Entry} → Longer es more → (q : Question) (n : ℕ) → FiledFor es q n → FiledFor more q n
+  filed_later : {es more : List Entry} → Longer es more → (q : Question) (n : ℕ) → FiledFor next size es q n → FiledFor next size more q n
   filed_later l q n h =
       let lt = h.answers.on_file in
       record {
@@ -73,31 +95,19 @@ module _ (next : Links) (size : ℕ) where
         least = λ way cs is c. rw (longer_entry l n lt) (h.least way cs is c);
       }
 
-  -- what a question filed is for its pair
-  abbrev pub FilesFor : List Entry → Question → Type 0
-  FilesFor entries q = (n : ℕ) → q.filed ≡ Some n → FiledFor entries q n
-
-  -- the questions lead from memory m to memory n, which is in order
-  pub record Passes (m : Memory) (qs : List Question) (n : Memory) : Type 0 where
-    pub longer : Longer m.entries n.entries
-    pub uses : MoreUses m.uses n.uses
-    pub sound : Sound n
-    pub filed : Each (FilesFor n.entries) qs
-    pub by_questions : (k : ℕ) → length m.entries ≤ k → k < length n.entries → Each (λ q. q.filed ≡ Some k → ⊥) qs → ⊥
-
   -- where no entry is filed
-  pub passes_same : {m n : Memory} → n.entries ≡ m.entries → MoreUses m.uses n.uses → Sound n → Passes m [] n
+  passes_same : {m n : Memory} → n.entries ≡ m.entries → MoreUses m.uses n.uses → Sound n → Passes next size m [] n
   passes_same {m} {n} same uses s = record { longer = record { newer = []; is = same }; uses = uses; sound = s; filed = tt; by_questions = λ k low high _. omega (arith, ap length same) }
 
-  pub passes_self : {m : Memory} → Sound m → Passes m [] m
+  pub passes_self : {m : Memory} → Sound m → Passes next size m [] m
   passes_self {m} s = passes_same refl (more_self m.uses) s
 
-  pub passes_trans : {m n o : Memory} {qs rs : List Question} → Passes m qs n → Passes n rs o → Passes m (qs ++ rs) o
+  pub passes_trans : {m n o : Memory} {qs rs : List Question} → Passes next size m qs n → Passes next size n rs o → Passes next size m (qs ++ rs) o
   passes_trans {m} {n} {o} {qs} {rs} h k = record {
     longer = longer_trans h.longer k.longer;
     uses = more_trans h.uses k.uses;
     sound = k.sound;
-    filed = each_append (FilesFor o.entries) qs rs (each_map (FilesFor n.entries) (FilesFor o.entries) (λ q f i e. filed_later k.longer q i (f i e)) qs h.filed) k.filed;
+    filed = each_append (FilesFor next size o.entries) qs rs (each_map (FilesFor next size n.entries) (FilesFor next size o.entries) (λ q f i e. filed_later k.longer q i (f i e)) qs h.filed) k.filed;
     by_questions = λ i low high e. elim (cases_lt i (length n.entries)) [
       | inl lt ↦ h.by_questions i low lt (each_parts (λ q. q.filed ≡ Some i → ⊥) qs rs e).0
       | inr ge ↦ k.by_questions i ge high (each_parts (λ q. q.filed ≡ Some i → ⊥) qs rs e).1
@@ -105,7 +115,7 @@ module _ (next : Links) (size : ℕ) where
   }
 
   -- a question that files nothing
-  pub passes_told : {m : Memory} (q : Question) → q.filed ≡ None → Sound m → Passes m (q ∷ []) m
+  pub passes_told : {m : Memory} (q : Question) → q.filed ≡ None → Sound m → Passes next size m (q ∷ []) m
   passes_told {m} q none s = record {
     longer = longer_self m.entries;
     uses = more_self m.uses;
@@ -114,65 +124,56 @@ module _ (next : Links) (size : ℕ) where
     by_questions = λ k low high _. omega arith;
   }
 
-  -- what an act comes to: the questions told, with those that its answer has yet to tell, lead on, and its answer or refusal is as it should be
-  abbrev pub ComesTo : {A : Type 0} → (A → List Question) → (A → Memory → Type 0) → (Refusal → Type 0) → Memory → Done A → Type 0
-  ComesTo pending Q S m (done a n qs) = Passes m (qs ++ pending a) n × Q a n
-  ComesTo pending Q S m (stop r n qs) = Passes m qs n × S r
-
-  -- a record, so that antt reads the act off the type
-  pub record Does {A : Type 0} (pending : A → List Question) (Q : A → Memory → Type 0) (S : Refusal → Type 0) (act : Act A) (m : Memory) : Type 0 where
-    pub holds : ComesTo pending Q S m (act m)
-
-  comes_after : {A : Type 0} (pending : A → List Question) (Q : A → Memory → Type 0) (S : Refusal → Type 0) {m n : Memory} {qs : List Question} → Passes m qs n → (d : Done A) → ComesTo pending Q S n d → ComesTo pending Q S m (after qs d)
+  comes_after : {A : Type 0} (pending : A → List Question) (Q : A → Memory → Type 0) (S : Refusal → Type 0) {m n : Memory} {qs : List Question} → Passes next size m qs n → (d : Done A) → ComesTo next size pending Q S n d → ComesTo next size pending Q S m (after qs d)
   unfolding acts
-  comes_after {A} pending Q S {m} {n} {qs} h (done a o rs) k = (subst (λ ts. Passes m ts o) (sym (append_assoc qs rs (pending a))) (passes_trans h k.0), k.1)
+  comes_after {A} pending Q S {m} {n} {qs} h (done a o rs) k = (subst (λ ts. Passes next size m ts o) (sym (append_assoc qs rs (pending a))) (passes_trans h k.0), k.1)
   comes_after {A} pending Q S {m} {n} {qs} h (stop r o rs) k = (passes_trans h k.0, k.1)
 
-  comes_then : {A B : Type 0} (pending : B → List Question) (Q : A → Memory → Type 0) (R : B → Memory → Type 0) (S : Refusal → Type 0) {m : Memory} (d : Done A) (f : A → Act B) → ComesTo none_pending Q S m d → ((a : A) (n : Memory) (qs : List Question) → Passes m qs n → Q a n → Does pending R S (f a) n) → ComesTo pending R S m (and_then d f)
+  comes_then : {A B : Type 0} (pending : B → List Question) (Q : A → Memory → Type 0) (R : B → Memory → Type 0) (S : Refusal → Type 0) {m : Memory} (d : Done A) (f : A → Act B) → ComesTo next size none_pending Q S m d → ((a : A) (n : Memory) (qs : List Question) → Passes next size m qs n → Q a n → Does next size pending R S (f a) n) → ComesTo next size pending R S m (and_then d f)
   unfolding acts
   comes_then pending Q R S {m} (done a n qs) f h k =
-      let p : Passes m qs n = subst (λ ts. Passes m ts n) (append-nil qs) h.0 in
+      let p : Passes next size m qs n = subst (λ ts. Passes next size m ts n) (append-nil qs) h.0 in
       comes_after pending R S p (f a n) (k a n qs p h.1).holds
   comes_then pending Q R S {m} (stop r n qs) f h k = h
 
   module _ {A B : Type 0} {pending : B → List Question} {Q : A → Memory → Type 0} {R : B → Memory → Type 0} {S : Refusal → Type 0} where
-    pub does_bind : {m : Memory} {act : Act A} {f : A → Act B} → Does none_pending Q S act m → ((a : A) (n : Memory) (qs : List Question) → Passes m qs n → Q a n → Does pending R S (f a) n) → Does pending R S (act >>= f) m
+    pub does_bind : {m : Memory} {act : Act A} {f : A → Act B} → Does next size none_pending Q S act m → ((a : A) (n : Memory) (qs : List Question) → Passes next size m qs n → Q a n → Does next size pending R S (f a) n) → Does next size pending R S (act >>= f) m
     unfolding acts
     does_bind {m} {act} {f} h k = record { holds = comes_then pending Q R S (act m) f h.holds k }
 
-    pub does_then : {m : Memory} {act : Act A} {g : Act B} → Does none_pending Q S act m → ((a : A) (n : Memory) (qs : List Question) → Passes m qs n → Q a n → Does pending R S g n) → Does pending R S (act >> g) m
+    pub does_then : {m : Memory} {act : Act A} {g : Act B} → Does next size none_pending Q S act m → ((a : A) (n : Memory) (qs : List Question) → Passes next size m qs n → Q a n → Does next size pending R S g n) → Does next size pending R S (act >> g) m
     unfolding acts
     does_then {m} {act} {g} h k = record { holds = comes_then pending Q R S (act m) (λ a. g) h.holds k }
 
   module _ {A : Type 0} {pending : A → List Question} {Q : A → Memory → Type 0} {S : Refusal → Type 0} where
-    pub does_pure : {m : Memory} (a : A) → Passes m (pending a) m → Q a m → Does pending Q S (pure a) m
+    pub does_pure : {m : Memory} (a : A) → Passes next size m (pending a) m → Q a m → Does next size pending Q S (pure a) m
     unfolding acts
     does_pure a p q = record { holds = (p, q) }
 
-    pub does_refuse : {m : Memory} (r : Refusal) → Sound m → S r → Does pending Q S (refuse_with r) m
+    pub does_refuse : {m : Memory} (r : Refusal) → Sound m → S r → Does next size pending Q S (refuse_with r) m
     unfolding acts
     does_refuse r s h = record { holds = (passes_self s, h) }
 
     -- what is done with the memory at hand
-    pub does_read : {m : Memory} (f : Memory → Act A) → Does pending Q S (f m) m → Does pending Q S (memory >>= f) m
+    pub does_read : {m : Memory} (f : Memory → Act A) → Does next size pending Q S (f m) m → Does next size pending Q S (memory >>= f) m
     unfolding acts
     does_read {m} f h = record { holds = go (f m m) h.holds }
       where
-        go : (d : Done A) → ComesTo pending Q S m d → ComesTo pending Q S m (after [] d)
+        go : (d : Done A) → ComesTo next size pending Q S m d → ComesTo next size pending Q S m (after [] d)
         go (done a n qs) k = k
         go (stop r n qs) k = k
 
-    pub does_need : {m : Memory} (b : Bool) (r : Refusal) {g : Act A} → Sound m → S r → (b ≡ true → Does pending Q S g m) → Does pending Q S (need b r >> g) m
+    pub does_need : {m : Memory} (b : Bool) (r : Refusal) {g : Act A} → Sound m → S r → (b ≡ true → Does next size pending Q S g m) → Does next size pending Q S (need b r >> g) m
     unfolding acts
     does_need {m} true r {g} s h k = record { holds = comes_after pending Q S (passes_self s) (g m) (k refl).holds }
     does_need {m} false r {g} s h k = record { holds = (passes_self s, h) }
 
   -- the three writes
-  pub does_drop : {S : Refusal → Type 0} {m : Memory} (a b : ℕ) → Sound m → Does none_pending (λ _ n. (n.entries ≡ m.entries) × (n.standing ≡ without m.standing a b)) S (drop_pair a b) m
+  pub does_drop : {S : Refusal → Type 0} {m : Memory} (a b : ℕ) → Sound m → Does next size none_pending (λ _ n. (n.entries ≡ m.entries) × (n.standing ≡ without m.standing a b)) S (drop_pair a b) m
   unfolding acts
   does_drop {S} {m} a b s = record { holds = (passes_same refl (more_self m.uses) (sound_dropped m a b s), (refl, refl)) }
 
-  pub does_use : {S : Refusal → Type 0} {m : Memory} (g : ℕ) (u : List ℕ) → Sound m → Below (length m.entries) u → Does none_pending (λ k n. UseBelow n.uses (length n.entries) g k) S (put_use g u) m
+  pub does_use : {S : Refusal → Type 0} {m : Memory} (g : ℕ) (u : List ℕ) → Sound m → Below (length m.entries) u → Does next size none_pending (λ k n. UseBelow n.uses (length n.entries) g k) S (put_use g u) m
   unfolding acts
   does_use {S} {m} g u s below =
       let more : MoreUses m.uses (m.uses ++ (record { given = g; members = u } ∷ [])) = record { newer = record { given = g; members = u } ∷ []; is = refl } in
@@ -181,16 +182,16 @@ module _ (next : Links) (size : ℕ) where
   -- a question that files one entry
   pub passes_filed : {m : Memory} (e : Entry) (q : Question) → q.filed ≡ Some (length m.entries) → Sound m →
       All (Cited m.uses (length m.entries)) e.segments → (is_mark e.segments ≡ true → segments_steps (reads m.entries) e.segments ≡ []) →
-      FiledFor (e ∷ m.entries) q (length m.entries) → Passes m (q ∷ []) (with_entry q.pair e m)
+      FiledFor next size (e ∷ m.entries) q (length m.entries) → Passes next size m (q ∷ []) (with_entry q.pair e m)
   passes_filed {m} e q is s cites bare f = record {
     longer = longer_one e m.entries;
     uses = more_self m.uses;
     sound = sound_filed m q.pair e cites bare s;
-    filed = ((λ n h. let same : length m.entries ≡ n = cc in subst (FiledFor (e ∷ m.entries) q) same f), tt);
+    filed = ((λ n h. let same : length m.entries ≡ n = cc in subst (FiledFor next size (e ∷ m.entries) q) same f), tt);
     by_questions = λ k low high none. let same : length m.entries ≡ k = omega arith in none.0 (is ∙ ap Some same);
   }
 
   pub does_put : {A : Type 0} {pending : A → List Question} {Q : A → Memory → Type 0} {S : Refusal → Type 0} {m : Memory} (p : Pair) (e : Entry) (f : ℕ → A) →
-      Passes m (pending (f (length m.entries))) (with_entry p e m) → Q (f (length m.entries)) (with_entry p e m) → Does pending Q S (put_entry p e >>= (λ n. pure (f n))) m
+      Passes next size m (pending (f (length m.entries))) (with_entry p e m) → Q (f (length m.entries)) (with_entry p e m) → Does next size pending Q S (put_entry p e >>= (λ n. pure (f n))) m
   unfolding acts
   does_put p e f h q = record { holds = (h, q) }

@@ -55,7 +55,7 @@ module _ (next : Links) (size : ℕ) (within : Within next size) where
         ] in
         root_last next (Some f) size [] b f there (eq-eqb f f refl)
 
-    pub path_exists : is_some (path next size a b) ≡ check_eq next size a b
+    path_exists : is_some (path next size a b) ≡ check_eq next size a b
     path_exists =
         let there : eqb f (last b T) ≡ true → shares (W a) (W b) ≡ true = λ h. ends_share (eqb-true f (last b T) h) in
         let back : shares (W a) (W b) ≡ true → eqb f (last b T) ≡ true = λ h. eq-eqb f (last b T) (share_ends h) in
@@ -102,7 +102,7 @@ module _ (next : Links) (size : ℕ) (within : Within next size) where
             follows_ancestor next top z (top ∷ tail) (follows_from next a top rising tail from_a) (grind (arith, apart));
       }
 
-  pub path_over_nearest : (a b : ℕ) → a < size → b < size → (p : Path) → NoCircle a (root_walk next size None a) → path next size a b ≡ Some p → OverNearest next a b p.steps
+  path_over_nearest : (a b : ℕ) → a < size → b < size → (p : Path) → NoCircle a (root_walk next size None a) → path next size a b ≡ Some p → OverNearest next a b p.steps
   path_over_nearest a b la lb p nc h =
       let pl = plain a b p (walk_terminal next size a la nc) h in
       let m = plain_meet a b la lb pl.ends in
@@ -116,7 +116,7 @@ module _ (next : Links) (size : ℕ) (within : Within next size) where
         is = ap (λ (q : Path). q.steps) (pl.is ∙ join_over next (W a) (W b) m.together);
       }
 
-  pub path_turns : (a b : ℕ) → a < size → b < size → (p : Path) → NoCircle a (root_walk next size None a) → path next size a b ≡ Some p →
+  path_turns : (a b : ℕ) → a < size → b < size → (p : Path) → NoCircle a (root_walk next size None a) → path next size a b ≡ Some p →
       (q : Path) × (path next size b a ≡ Some q) × (q.steps ≡ turned p.steps)
   path_turns a b la lb p nc h =
       let end = walk_terminal next size a la nc in
@@ -125,7 +125,7 @@ module _ (next : Links) (size : ℕ) (within : Within next size) where
       (join next (W b) (W a), plain_made b a (subst (Terminal next) pl.ends end) (sym pl.ends), join_turned next (W a) (W b) m.together ∙ ap (λ (q : Path). turned q.steps) (sym pl.is))
 
   module _ (gs : List Given) (ok : (e : ℕ) (l : Link) → next e ≡ Some l → Linked gs e l) where
-    pub path_joins : (a b : ℕ) → a < size → b < size → (p : Path) → path next size a b ≡ Some p → Joins gs p.steps a b × (meets gs a p.steps ≡ p.enodes) × Distinct p.enodes
+    path_joins : (a b : ℕ) → a < size → b < size → (p : Path) → path next size a b ≡ Some p → Joins gs p.steps a b × (meets gs a p.steps ≡ p.enodes) × Distinct p.enodes
     path_joins a b la lb p h =
         let found = path_found next size a b p h in
         let root = last a (W a) in
@@ -148,7 +148,7 @@ module _ (next : Links) (size : ℕ) (within : Within next size) where
         ∙ ap (reduce A) (reduce_forth B (reduce (turned C) []) (reduce_reduced (turned C) [] tt))
         ∙ sym (join_reduces next a c (W a) (W c) ac [] tt)
 
-    pub paths_compose : (a b c : ℕ) → a < size → b < size → c < size → (p q : Path) → NoCircle a (root_walk next size None a) → path next size a b ≡ Some p → path next size b c ≡ Some q →
+    paths_compose : (a b c : ℕ) → a < size → b < size → c < size → (p q : Path) → NoCircle a (root_walk next size None a) → path next size a b ≡ Some p → path next size b c ≡ Some q →
         (r : Path) × (path next size a c ≡ Some r)
         × Bare r.steps
         × ((zs : List Step) → Strikes (p.steps ++ q.steps) zs → Bare zs → zs ≡ r.steps)

@@ -17,7 +17,7 @@ without_gone [] a b = refl
 without_gone (s ∷ ss) a b = let ih = without_gone ss a b in grind (arith, nat_tests)
 
 -- dropping a pair makes nothing stand
-pub without_stands : (ss : List Standing) (a b x y n : ℕ) → stands (without ss a b) x y ≡ Some n → stands ss x y ≡ Some n
+without_stands : (ss : List Standing) (a b x y n : ℕ) → stands (without ss a b) x y ≡ Some n → stands ss x y ≡ Some n
 without_stands [] a b x y n h = h
 without_stands (s ∷ ss) a b x y n h =
     let gone = without_gone ss a b in
@@ -68,7 +68,7 @@ sound_filed m p e cites bare s = record {
     go n false q h = rw (q, reads) (s.marks n (rw (q, entry_at) at h))
 
 -- an entry that is not on file reads as nothing
-pub reads_past : (es : List Entry) (n : ℕ) → length es ≤ n → reads es n ≡ []
+reads_past : (es : List Entry) (n : ℕ) → length es ≤ n → reads es n ≡ []
 reads_past [] n h = refl
 reads_past (e ∷ es) n h = let ih : reads es n ≡ [] = reads_past es n (omega arith) in grind (arith, nat_tests)
 

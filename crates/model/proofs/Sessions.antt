@@ -51,8 +51,8 @@ record Grown (k l : Case) : Type 0 where
 
 -- logging and frames leave what is remembered
 logged_goes_on : (s : Session) (o : Outcome) → InOrder s → Grown s.case o.1 → GoesOn s (logged s o)
-logged_goes_on s (Ok n, k) h g = record { passes = passes_self (links_of s.case) (size_of s) h.sound; in_order = record { ends = g.ends; sound = h.sound }; no_fewer = g.no_fewer }
-logged_goes_on s (Err r, k) h g = record { passes = passes_self (links_of s.case) (size_of s) h.sound; in_order = record { ends = g.ends; sound = h.sound }; no_fewer = g.no_fewer }
+logged_goes_on s (Ok n, k) h g = record { passes = passes_self h.sound; in_order = record { ends = g.ends; sound = h.sound }; no_fewer = g.no_fewer }
+logged_goes_on s (Err r, k) h g = record { passes = passes_self h.sound; in_order = record { ends = g.ends; sound = h.sound }; no_fewer = g.no_fewer }
 
 module _ (k : Case) (h : EndsKnown k.records.givens (length k.records.enodes)) where
   as_it_was : Grown k k
@@ -128,7 +128,7 @@ module _ (s : Session) (h : InOrder s) where
 
   unless_short_asked : (p : Pair) (c : Check) → OnlyShort c → (t : Turn) → Asked s p t → Asked s p (unless_short c s t)
   unless_short_asked p (Ok u) short t a = a
-  unless_short_asked p (Err r) short t a = record { goes_on = went _ s.memory [] (passes_self (links_of s.case) (size_of s) h.sound); says = λ five _. absurd (omega (arith, short, five)) }
+  unless_short_asked p (Err r) short t a = record { goes_on = went _ s.memory [] (passes_self h.sound); says = λ five _. absurd (omega (arith, short, five)) }
 
   module _ (limit : ℕ) (leaves : ℕ → Bool) where
     pub ask_asked : (may a b : ℕ) → Asked s (record { from = a; to = b }) (turn limit leaves (F.ask may a b) s)
@@ -138,7 +138,7 @@ module _ (s : Session) (h : InOrder s) where
         unless_short_asked p _ (asked_short p (scratch_checks s) (scratch_short s)) _
         (answered p _ (ask_does (links_of s.case) s.case.records s.places (path_laid s.case.frames.counts s.case.records.givens (size_of s)) 33 0 (permission may) p s.memory h.sound).holds)
 
-    pub turn_goes_on : (c : Call) → GoesOn s (turn limit leaves c s)
+    turn_goes_on : (c : Call) → GoesOn s (turn limit leaves c s)
     unfolding turn
     turn_goes_on (F.enode owner) = logged_goes_on s _ h (enode_grown s.case h.ends owner)
     turn_goes_on (F.given a b kind) = logged_goes_on s _ h (given_grown s.case h.ends a b kind)

@@ -98,7 +98,7 @@ reduce_strikes xs zs (one {ys} k more) =
     ∙ reduce_strikes ys zs more
 
 -- nothing is left to strike out exactly in a reduced word
-pub reduced_from_bare : (xs : List Step) → Bare xs → Reduced xs
+reduced_from_bare : (xs : List Step) → Bare xs → Reduced xs
 reduced_from_bare [] b = tt
 reduced_from_bare (s ∷ []) b = tt
 reduced_from_bare (s ∷ t ∷ ts) b = (

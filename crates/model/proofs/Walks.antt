@@ -48,7 +48,7 @@ visit_same e on on' false false (Some l) same = ap (λ (w : Walk). record { enod
 
 module _ (next : Links) (root : Option ℕ) where
   -- what a walk meets, it had not seen
-  pub walk_unseen : (room : ℕ) (seen : List ℕ) (e x : ℕ) → met x (walk next root room seen e).enodes ≡ true → met x seen ≡ false
+  walk_unseen : (room : ℕ) (seen : List ℕ) (e x : ℕ) → met x (walk next root room seen e).enodes ≡ true → met x seen ≡ false
   walk_unseen zero seen e x h = grind arith
   walk_unseen (suc room) seen e x h =
       let ih : (y : ℕ) → met x (walk next root room (e ∷ seen) y).enodes ≡ true → met x (e ∷ seen) ≡ false = λ y. walk_unseen room (e ∷ seen) y x in
