@@ -69,16 +69,8 @@ module _ (k : Case) (h : EndsKnown k.records.givens (length k.records.enodes)) w
       unless_grown _ (Ok (length k.records.enodes), enode_added k e) (λ _.
       record { ends = ends_more k.records.givens (length k.records.enodes) (length (k.records.enodes ++ (e ∷ []))) more h; no_fewer = more })
 
-  and_then_first : (c d : Check) → and_then c d ≡ Ok tt → c ≡ Ok tt
-  and_then_first (Ok u) d e = refl
-  and_then_first (Err r) d e = absurd (cc)
-
-  known_first : (size e : ℕ) (es : List ℕ) → all_known size (e ∷ es) ≡ Ok tt → (e < size) × (all_known size es ≡ Ok tt)
-  known_first size e es q = go (ltb e size) refl
-    where
-      go : (b : Bool) → ltb e size ≡ b → (e < size) × (all_known size es ≡ Ok tt)
-      go true t = (ltb-true e size t, rw (t, all_known) at q)
-      go false t = absurd (let r : Err _ ≡ Ok tt = rw (t, all_known) at q in cc)
+  ends_checked : (a b : ℕ) (kind : Kind) → given_checks a a b kind k ≡ Ok tt → (a < length k.records.enodes) × (b < length k.records.enodes)
+  ends_checked a b kind e = grind (arith, nat_tests)
 
   framed_grown : (g : ℕ → Given) → ((frame : ℕ) → ((g frame).from < length k.records.enodes) × ((g frame).to < length k.records.enodes)) → (o : Result ℕ Refusal × Frames) → Grown k (in_frame k g o).1
   framed_grown g known (Ok frame, m) = record { ends = ends_given k.records.givens (g frame) (length k.records.enodes) h (known frame).0 (known frame).1; no_fewer = omega arith }
@@ -87,11 +79,8 @@ module _ (k : Case) (h : EndsKnown k.records.givens (length k.records.enodes)) w
   given_grown : (a b : ℕ) (kind : Kind) → Grown k (new_given a a b kind k).1
   given_grown a b kind =
       unless_grown (given_checks a a b kind k) _ (λ e.
-      let size = length k.records.enodes in
-      let one = known_first size a (a ∷ b ∷ pair_ends (args_of kind)) (and_then_first _ _ e) in
-      let two = known_first size a (b ∷ pair_ends (args_of kind)) one.1 in
-      let three = known_first size b (pair_ends (args_of kind)) two.1 in
-      framed_grown _ (λ frame. (one.0, three.0)) (log_frame k.frames))
+      let known = ends_checked a b kind e in
+      framed_grown _ (λ frame. (known.0, known.1)) (log_frame k.frames))
 
 -- a refusal of the scratch tables is no refusal of the question
 abbrev OnlyShort : Check → Type 0

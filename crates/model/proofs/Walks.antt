@@ -47,31 +47,26 @@ visit_same e on on' false false None same = refl
 visit_same e on on' false false (Some l) same = ap (λ (w : Walk). record { enodes = e ∷ w.enodes; ending = w.ending }) (same l refl refl)
 
 module _ (next : Links) (root : Option ℕ) where
+  abbrev walked : ℕ → List ℕ → ℕ → List ℕ
+  walked room seen e = (walk next root room seen e).enodes
+
   -- what a walk meets, it had not seen
-  walk_unseen : (room : ℕ) (seen : List ℕ) (e x : ℕ) → met x (walk next root room seen e).enodes ≡ true → met x seen ≡ false
+  walk_unseen : (room : ℕ) (seen : List ℕ) (e x : ℕ) → met x (walked room seen e) ≡ true → met x seen ≡ false
   walk_unseen zero seen e x h = grind arith
-  walk_unseen (suc room) seen e x h =
-      let ih : (y : ℕ) → met x (walk next root room (e ∷ seen) y).enodes ≡ true → met x (e ∷ seen) ≡ false = λ y. walk_unseen room (e ∷ seen) y x in
-      grind (arith, nat_tests, ih)
+  walk_unseen (suc room) seen e x h = grind (arith, nat_tests, walk_unseen room (e ∷ seen))
 
-  pub walk_distinct : (room : ℕ) (seen : List ℕ) (e : ℕ) → Distinct (walk next root room seen e).enodes
+  pub walk_distinct : (room : ℕ) (seen : List ℕ) (e : ℕ) → Distinct (walked room seen e)
   walk_distinct zero seen e = tt
-  walk_distinct (suc room) seen e =
-      let ih : (y : ℕ) → Distinct (walk next root room (e ∷ seen) y).enodes = λ y. walk_distinct room (e ∷ seen) y in
-      let new : (y : ℕ) → met e (walk next root room (e ∷ seen) y).enodes ≡ true → met e (e ∷ seen) ≡ false = λ y. walk_unseen room (e ∷ seen) y e in
-      grind (arith, nat_tests, ih, new)
+  walk_distinct (suc room) seen e = grind (arith, nat_tests, walk_distinct room (e ∷ seen), walk_unseen room (e ∷ seen))
 
-  pub walk_short : (room : ℕ) (seen : List ℕ) (e : ℕ) → length (walk next root room seen e).enodes ≤ room
+  pub walk_short : (room : ℕ) (seen : List ℕ) (e : ℕ) → length (walked room seen e) ≤ room
   walk_short zero seen e = omega arith
-  walk_short (suc room) seen e =
-      let ih : (y : ℕ) → length (walk next root room (e ∷ seen) y).enodes ≤ room = λ y. walk_short room (e ∷ seen) y in
-      grind (arith, ih)
+  walk_short (suc room) seen e = grind (arith, walk_short room (e ∷ seen))
 
-  pub walk_follows : (room : ℕ) (seen : List ℕ) (e : ℕ) → Follows next e (walk next root room seen e).enodes
+  pub walk_follows : (room : ℕ) (seen : List ℕ) (e : ℕ) → Follows next e (walked room seen e)
   walk_follows zero seen e = tt
   walk_follows (suc room) seen e =
-      let on : (l : Link) → next e ≡ Some l → Follows next e (e ∷ (walk next root room (e ∷ seen) l.to).enodes) =
-      λ l h. follows_cons next e l (walk next root room (e ∷ seen) l.to).enodes h (walk_follows room (e ∷ seen) l.to) in
+      let on : (l : Link) → next e ≡ Some l → Follows next e (e ∷ walked room (e ∷ seen) l.to) = λ l h. follows_cons next e l _ h (walk_follows room (e ∷ seen) l.to) in
       grind (arith, nat_tests, on)
 
   -- a walk ends before an enode that it has seen
@@ -79,19 +74,18 @@ module _ (next : Links) (root : Option ℕ) where
   walk_again zero seen e h = refl
   walk_again (suc room) seen e h = rw h
 
-  pub walk_below : (size room : ℕ) (seen : List ℕ) (e : ℕ) → Within next size → e < size → Below size (walk next root room seen e).enodes
+  pub walk_below : (size room : ℕ) (seen : List ℕ) (e : ℕ) → Within next size → e < size → Below size (walked room seen e)
   walk_below size zero seen e within lt y h = grind arith
   walk_below size (suc room) seen e within lt y h =
-      let ih : (l : Link) → next e ≡ Some l → met y (walk next root room (e ∷ seen) l.to).enodes ≡ true → y < size = λ l k. walk_below size room (e ∷ seen) l.to within (within e l k) y in
+      let ih : (l : Link) → next e ≡ Some l → met y (walked room (e ∷ seen) l.to) ≡ true → y < size = λ l k. walk_below size room (e ∷ seen) l.to within (within e l k) y in
       grind (arith, nat_tests, ih)
 
   -- the root is a walk's last enode
-  pub root_last : (room : ℕ) (seen : List ℕ) (e x : ℕ) → met x (walk next root room seen e).enodes ≡ true → is_root root x ≡ true → x ≡ last e (walk next root room seen e).enodes
+  pub root_last : (room : ℕ) (seen : List ℕ) (e x : ℕ) → met x (walked room seen e) ≡ true → is_root root x ≡ true → x ≡ last e (walked room seen e)
   root_last zero seen e x h r = grind arith
   root_last (suc room) seen e x h r =
-      let ih : (y : ℕ) → met x (walk next root room (e ∷ seen) y).enodes ≡ true → x ≡ last y (walk next root room (e ∷ seen) y).enodes = λ y m. root_last room (e ∷ seen) y x m r in
-      let any : (y : ℕ) → met x (walk next root room (e ∷ seen) y).enodes ≡ true → last e (walk next root room (e ∷ seen) y).enodes ≡ last y (walk next root room (e ∷ seen) y).enodes = λ y m. last_any x e y (walk next root room (e ∷ seen) y).enodes m in
-      grind (arith, nat_tests, ih, any)
+      let any : (y : ℕ) → met x (walked room (e ∷ seen) y) ≡ true → last e (walked room (e ∷ seen) y) ≡ last y (walked room (e ∷ seen) y) = λ y. last_any x e y _ in
+      grind (arith, nat_tests, root_last room (e ∷ seen), any)
 
   -- a root walk begins with its enode
   pub walk_begins : (size e : ℕ) → e < size → (xs : List ℕ) × ((root_walk next size root e).enodes ≡ e ∷ xs)
