@@ -1,6 +1,7 @@
 -- A chain over kept entries reads as the path's steps. Assumes nothing.
 use Rattle.std.proofs.Common.{◌≡◌, ℕ, zero, suc, ◌-◌, ◌<◌, ◌≤◌, Bool, true, false, ◌&&◌, eqb, ltb, leb, ◌⊎◌, List, [], ◌∷◌, ◌++◌, length, get_or, take, drop, Some, None, sym, refl, ap, ◌∙◌, inl, inr, arith, take-append-drop, take_all}
 use Rattle.std.proofs.lemmas.Bool.{and_parts, ltb-true, eqb-true}
+use Rattle.std.proofs.lemmas.Bool.Decides.{nat_tests}
 use Rattle.std.specs.List.{AllByRecursion as All}
 use Rattle.model.specs.declared.items.Step.{Step}
 use Rattle.model.specs.Records.{turned}
@@ -16,7 +17,7 @@ same_steps_eq : (xs ys : List Step) → same_steps xs ys ≡ true → xs ≡ ys
 same_steps_eq [] [] h = refl
 same_steps_eq [] (y ∷ ys) h = cc
 same_steps_eq (x ∷ xs) [] h = cc
-same_steps_eq (x ∷ xs) (y ∷ ys) h = let ih = same_steps_eq xs ys in let e = same_step_eq x y in grind (arith, ih, e)
+same_steps_eq (x ∷ xs) (y ∷ ys) h = grind (arith, same_steps_eq xs ys, same_step_eq x y)
 
 -- a step, or an entry on file: no chain has a mark
 abbrev pub OnFile : ℕ → Segment → Type 0
@@ -83,7 +84,7 @@ module _ (es : List Entry) (ss : List Step) where
   pub span_start : (j n : ℕ) (d : Edge) → kept (reads es) ss 0 j n ≡ Some d → spans (length ss) d ≡ true → reads es n ≡ ss
   span_start j n d h s = elim (kept_cases 0 j n d h) [
     | inl (l, r, e) ↦
-        let t : j ≡ length ss = eqb-true j (length ss) (and_parts (eqb 0 0) (eqb j (length ss)) (ap (spans (length ss)) (sym e) ∙ s)).1 in
+        let t : j ≡ length ss = grind (arith, nat_tests) in
         let k : length ss ≤ j - 0 = omega arith in
         r ∙ take_all (j - 0) ss k
     | inr (l, r, e) ↦ absurd (omega arith)
@@ -93,10 +94,10 @@ module _ (es : List Entry) (ss : List Step) where
   pub span_end : (j n : ℕ) (d : Edge) → kept (reads es) ss (length ss) j n ≡ Some d → spans (length ss) d ≡ true → reads es n ≡ turned ss
   span_end j n d h s = elim (kept_cases (length ss) j n d h) [
     | inl (l, r, e) ↦
-        let t : j ≡ length ss = eqb-true j (length ss) (and_parts (eqb (length ss) 0) (eqb j (length ss)) (ap (spans (length ss)) (sym e) ∙ s)).1 in
+        let t : j ≡ length ss = grind (arith, nat_tests) in
         absurd (omega arith)
     | inr (l, r, e) ↦
-        let t : j ≡ 0 = eqb-true j 0 (and_parts (eqb j 0) (eqb (length ss) (length ss)) (ap (spans (length ss)) (sym e) ∙ s)).0 in
+        let t : j ≡ 0 = grind (arith, nat_tests) in
         let k : length ss ≤ length ss - j = omega arith in
         let q : stretch ss j (length ss) ≡ ss = ap (λ (x : ℕ). take (length ss - j) (drop x ss)) t ∙ take_all (length ss - j) ss k in
         r ∙ ap turned q

@@ -64,7 +64,7 @@ same_list_eq : (xs ys : List ℕ) → same_list xs ys ≡ true → xs ≡ ys
 same_list_eq [] [] h = refl
 same_list_eq [] (y ∷ ys) h = cc
 same_list_eq (x ∷ xs) [] h = cc
-same_list_eq (x ∷ xs) (y ∷ ys) h = let ih = same_list_eq xs ys in grind (arith, nat_tests, ih)
+same_list_eq (x ∷ xs) (y ∷ ys) h = grind (arith, nat_tests, same_list_eq xs ys)
 
 -- an equal list is found at its number
 place_found : (u : List ℕ) (i : ℕ) (vs : List (List ℕ)) (k : ℕ) → place_of u i vs ≡ Some k → (j : ℕ) × (k ≡ i + j) × (j < length vs) × (get_or vs j [] ≡ u)

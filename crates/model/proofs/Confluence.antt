@@ -59,7 +59,6 @@ module _ (next : Links) (b : ℕ) (t : List ℕ) (from_b : Follows next b t) (on
   not_yet x xs ne m =
       let there = met_append x m.falling (m.top ∷ m.tail) in
       let elsewhere : met x (m.falling ++ (m.top ∷ m.tail)) ≡ false = rw m.second_is at ne in
-      let apart : Apart m.rising m.falling = m.apart in
       record {
         rising = x ∷ m.rising;
         falling = m.falling;
@@ -67,7 +66,7 @@ module _ (next : Links) (b : ℕ) (t : List ℕ) (from_b : Follows next b t) (on
         tail = m.tail;
         first_is = ap (λ r. x ∷ r) m.first_is;
         second_is = m.second_is;
-        apart = λ z h. let k : met z m.rising ≡ true → met z m.falling ≡ false = apart z in grind (arith, nat_tests, k);
+        apart = λ z h. grind (arith, nat_tests, m.apart z);
       }
 
   -- lists that follow the links, have no enode twice and end alike are confluent
@@ -81,18 +80,17 @@ module _ (next : Links) (b : ℕ) (t : List ℕ) (from_b : Follows next b t) (on
 -- the common tail of confluent lists
 common_append : (xs ys zs : List ℕ) → common (xs ++ ys) (xs ++ zs) ≡ length xs + common ys zs
 common_append [] ys zs = omega arith
-common_append (x ∷ xs) ys zs = let ih = common_append xs ys zs in grind (arith, nat_tests)
+common_append (x ∷ xs) ys zs = grind (arith, nat_tests, common_append xs ys zs)
 
 common_apart : (xs ys : List ℕ) → Apart xs ys → common xs ys ≡ 0
 common_apart [] ys apart = refl
 common_apart (x ∷ xs) [] apart = refl
-common_apart (x ∷ xs) (y ∷ ys) apart = let h = apart x (met_head x xs) in grind (arith, nat_tests)
+common_apart (x ∷ xs) (y ∷ ys) apart = grind (arith, nat_tests, apart x (met_head x xs))
 
 shared_tail : (rising falling tail : List ℕ) → Apart rising falling → shared (rising ++ tail) (falling ++ tail) ≡ length tail
 shared_tail rising falling tail apart =
     rw (reverse-append rising tail, reverse-append falling tail, common_append (reverse tail) (reverse rising) (reverse falling))
-    (let none : common (reverse rising) (reverse falling) ≡ 0 = common_apart (reverse rising) (reverse falling) (λ z h.
-    let r = met_reverse z rising in let k = met_reverse z falling in let m = apart z in grind (arith, m)) in
+    (let none : common (reverse rising) (reverse falling) ≡ 0 = common_apart (reverse rising) (reverse falling) (λ z h. grind (arith, met_reverse z rising, met_reverse z falling, apart z)) in
     omega (arith, length-reverse tail))
 
 without_tail : (front tail : List ℕ) → without_last (length tail) (front ++ tail) ≡ front

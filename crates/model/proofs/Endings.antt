@@ -47,6 +47,5 @@ module _ (next : Links) where
   pub walk_told : (r : ℕ) → Terminal next r → (room : ℕ) (seen : List ℕ) (e : ℕ) → (walk next (Some r) room seen e).enodes ≡ (walk next None room seen e).enodes
   walk_told r t zero seen e = refl
   walk_told r t (suc room) seen e =
-      let ih : (y : ℕ) → (walk next (Some r) room (e ∷ seen) y).enodes ≡ (walk next None room (e ∷ seen) y).enodes = λ y. walk_told r t room (e ∷ seen) y in
       let ag : (y : ℕ) → met y (e ∷ seen) ≡ true → (walk next None room (e ∷ seen) y).enodes ≡ [] = λ y h. ap (λ (w : Walk). w.enodes) (walk_again next None room (e ∷ seen) y h) in
-      grind (arith, nat_tests, ih, ag, t)
+      grind (arith, nat_tests, walk_told r t room (e ∷ seen), ag, t)

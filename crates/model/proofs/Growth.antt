@@ -24,11 +24,11 @@ longer_length {a} {b} h = omega (arith, ap length h.is, length-append h.newer a)
 
 reads_append : (newer es : List Entry) (n : ℕ) → n < length es → reads (newer ++ es) n ≡ reads es n
 reads_append [] es n lt = refl
-reads_append (e ∷ newer) es n lt = let ih = reads_append newer es n lt in let l = length-append newer es in grind (arith, nat_tests)
+reads_append (e ∷ newer) es n lt = grind (arith, nat_tests, reads_append newer es n lt, length-append newer es)
 
 entry_append : (newer es : List Entry) (n : ℕ) → n < length es → entry_at (newer ++ es) n ≡ entry_at es n
 entry_append [] es n lt = refl
-entry_append (e ∷ newer) es n lt = let ih = entry_append newer es n lt in let l = length-append newer es in grind (arith, nat_tests)
+entry_append (e ∷ newer) es n lt = grind (arith, nat_tests, entry_append newer es n lt, length-append newer es)
 
 -- entries on file read as before
 pub longer_reads : {a b : List Entry} → Longer a b → (n : ℕ) → n < length a → reads b n ≡ reads a n
@@ -51,4 +51,4 @@ more_trans {a} {b} {c} h k = record { newer = h.newer ++ k.newer; is = k.is ∙ 
 -- the use lists of a given are numbered as before
 pub uses_append : (g : ℕ) (us vs : List Use) → uses_of g (us ++ vs) ≡ uses_of g us ++ uses_of g vs
 uses_append g [] vs = refl
-uses_append g (u ∷ us) vs = let ih = uses_append g us vs in grind (arith, nat_tests, ih)
+uses_append g (u ∷ us) vs = grind (arith, nat_tests, uses_append g us vs)

@@ -25,7 +25,7 @@ use Rattle.model.proofs.Passing.{passes_self, Does, none_pending, does_bind, doe
 -- dropping one pair leaves what stands for another
 without_other : (ss : List Standing) (a b x y : ℕ) → (eqb a x && eqb b y) ≡ false → stands (without ss a b) x y ≡ stands ss x y
 without_other [] a b x y ne = refl
-without_other (s ∷ ss) a b x y ne = let ih = without_other ss a b x y ne in grind (arith, nat_tests)
+without_other (s ∷ ss) a b x y ne = grind (arith, nat_tests, without_other ss a b x y ne)
 
 none_spans : (o : Option ℕ) → ((n : ℕ) → o ≡ Some n → ⊥) → o ≡ None
 none_spans None h = refl

@@ -13,19 +13,16 @@ met_head x xs = grind (arith, nat_tests)
 
 pub met_append : (z : ℕ) (xs ys : List ℕ) → met z (xs ++ ys) ≡ (met z xs || met z ys)
 met_append z [] ys = refl
-met_append z (x ∷ xs) ys = let ih = met_append z xs ys in grind (arith, ih)
+met_append z (x ∷ xs) ys = grind (arith, met_append z xs ys)
 
 pub met_reverse : (z : ℕ) (xs : List ℕ) → met z (reverse xs) ≡ met z xs
 met_reverse z [] = refl
-met_reverse z (x ∷ xs) =
-    let ih = met_reverse z xs in
-    let end = met_append z (reverse xs) (x ∷ []) in
-    rw reverse-cons (grind (arith, ih, end))
+met_reverse z (x ∷ xs) = rw reverse-cons (grind (arith, met_reverse z xs, met_append z (reverse xs) (x ∷ [])))
 
 -- a list's last number is in it
 pub met_last : (x : ℕ) (xs : List ℕ) → met (last x xs) (x ∷ xs) ≡ true
 met_last x [] = grind (arith, nat_tests)
-met_last x (y ∷ ys) = let ih = met_last y ys in grind (arith, nat_tests, ih)
+met_last x (y ∷ ys) = grind (arith, nat_tests, met_last y ys)
 
 -- a list that has x, before x and after it
 pub record Split (x : ℕ) (xs : List ℕ) : Type 0 where
@@ -49,9 +46,7 @@ last_append d x (z ∷ zs) ys = last_append z x zs ys
 -- two lists share a number exactly when one is in both
 pub shares_from : (z : ℕ) (xs ys : List ℕ) → met z xs ≡ true → met z ys ≡ true → shares xs ys ≡ true
 shares_from z [] ys h k = grind arith
-shares_from z (x ∷ xs) ys h k =
-    let ih : met z xs ≡ true → shares xs ys ≡ true = λ m. shares_from z xs ys m k in
-    grind (arith, nat_tests, ih)
+shares_from z (x ∷ xs) ys h k = grind (arith, nat_tests, shares_from z xs ys)
 
 pub shared_by : (xs ys : List ℕ) → shares xs ys ≡ true → (z : ℕ) × (met z xs ≡ true) × (met z ys ≡ true)
 shared_by [] ys h = absurd (grind arith)
@@ -68,29 +63,22 @@ abbrev pub Apart : List ℕ → List ℕ → Type 0
 Apart xs ys = (z : ℕ) → met z xs ≡ true → met z ys ≡ false
 
 pub apart_sym : (xs ys : List ℕ) → Apart xs ys → Apart ys xs
-apart_sym xs ys h z m = let k : met z xs ≡ true → met z ys ≡ false = h z in grind (arith, k)
+apart_sym xs ys h z m = grind (arith, h z)
 
 pub distinct_append : (xs ys : List ℕ) → Distinct xs → Distinct ys → Apart xs ys → Distinct (xs ++ ys)
 distinct_append [] ys d e apart = e
-distinct_append (x ∷ xs) ys d e apart =
-    let m = met_append x xs ys in
-    let here : met x ys ≡ false = apart x (grind (arith, nat_tests)) in
-    (grind (arith, nat_tests), distinct_append xs ys d.1 e (λ z h. apart z (grind (arith, nat_tests))))
+distinct_append (x ∷ xs) ys d e apart = (grind (arith, nat_tests, met_append x xs ys, apart x), distinct_append xs ys d.1 e (λ z h. apart z (grind (arith, nat_tests))))
 
 pub distinct_parts : (xs ys : List ℕ) → Distinct (xs ++ ys) → Distinct xs × Distinct ys × Apart xs ys
 distinct_parts [] ys d = (tt, d, λ z h. grind arith)
 distinct_parts (x ∷ xs) ys d =
     let more = distinct_parts xs ys d.1 in
-    let m = met_append x xs ys in
-    let here = d.0 in
-    let apart : (z : ℕ) → met z xs ≡ true → met z ys ≡ false = more.2 in
-    ((grind (arith, nat_tests), more.0), more.1, λ z h. let there : met z xs ≡ true → met z ys ≡ false = apart z in grind (arith, nat_tests))
+    ((grind (arith, nat_tests, d.0, met_append x xs ys), more.0), more.1, λ z h. grind (arith, nat_tests, d.0, met_append x xs ys, more.2 z))
 
 pub distinct_reverse : (xs : List ℕ) → Distinct xs → Distinct (reverse xs)
 distinct_reverse [] d = tt
 distinct_reverse (x ∷ xs) d =
-    rw reverse-cons (distinct_append (reverse xs) (x ∷ []) (distinct_reverse xs d.1) (refl, tt) (λ z h.
-    let r = met_reverse z xs in grind (arith, nat_tests)))
+    rw reverse-cons (distinct_append (reverse xs) (x ∷ []) (distinct_reverse xs d.1) (refl, tt) (λ z h. grind (arith, nat_tests, met_reverse z xs)))
 
 -- the same words in the library's
 met_any : (x : ℕ) (xs : List ℕ) → met x xs ≡ list_any (eqb x) xs

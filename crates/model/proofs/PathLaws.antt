@@ -88,18 +88,13 @@ module _ (next : Links) (size : ℕ) (within : Within next size) where
       let top = m.together.top in
       let tail = m.together.tail in
       let from_a = rising_follows next a b (W a) (W b) m in
-      let in_a = met_append top rising (top ∷ tail) in
-      let in_b = met_append top falling (top ∷ tail) in
       record {
-        of_first = follows_ancestor next a top (rising ++ (top ∷ tail)) from_a (grind (arith, nat_tests));
-        of_second = follows_ancestor next b top (falling ++ (top ∷ tail)) (falling_follows next a b (W a) (W b) m) (grind (arith, nat_tests));
+        of_first = follows_ancestor next a top (rising ++ (top ∷ tail)) from_a (grind (arith, nat_tests, met_append top rising (top ∷ tail)));
+        of_second = follows_ancestor next b top (falling ++ (top ∷ tail)) (falling_follows next a b (W a) (W b) m) (grind (arith, nat_tests, met_append top falling (top ∷ tail)));
         nearest = λ z above_a above_b.
             let z_a : met z (rising ++ (top ∷ tail)) ≡ true = subst (λ w. met z w ≡ true) m.together.first_is (has_ancestors a z la above_a) in
             let z_b : met z (falling ++ (top ∷ tail)) ≡ true = subst (λ w. met z w ≡ true) m.together.second_is (has_ancestors b z lb above_b) in
-            let p = met_append z rising (top ∷ tail) in
-            let q = met_append z falling (top ∷ tail) in
-            let apart : met z rising ≡ true → met z falling ≡ false = m.together.apart z in
-            follows_ancestor next top z (top ∷ tail) (follows_from next a top rising tail from_a) (grind (arith, apart));
+            follows_ancestor next top z (top ∷ tail) (follows_from next a top rising tail from_a) (grind (arith, met_append z rising (top ∷ tail), met_append z falling (top ∷ tail), m.together.apart z));
       }
 
   path_over_nearest : (a b : ℕ) → a < size → b < size → (p : Path) → NoCircle a (root_walk next size None a) → path next size a b ≡ Some p → OverNearest next a b p.steps

@@ -63,12 +63,7 @@ module _ (next : Links) (a b : ℕ) (f t : List ℕ) (m : Meeting next a b f t) 
   join_distinct =
       let first : Distinct ((rising ++ (top ∷ [])) ++ tail) = subst Distinct (m.together.first_is ∙ sym (append_assoc rising (top ∷ []) tail)) m.once_first in
       let second = distinct_parts falling (top ∷ tail) (subst Distinct m.together.second_is m.once_second) in
-      let apart : Apart (rising ++ (top ∷ [])) (reverse falling) = λ z h.
-      let at = met_append z rising (top ∷ []) in
-      let back = met_reverse z falling in
-      let one : met z rising ≡ true → met z falling ≡ false = m.together.apart z in
-      let two : met z falling ≡ true → met z (top ∷ tail) ≡ false = second.2 z in
-      grind (arith, nat_tests, one, two) in
+      let apart : Apart (rising ++ (top ∷ [])) (reverse falling) = λ z h. grind (arith, nat_tests, met_append z rising (top ∷ []), met_reverse z falling, m.together.apart z, second.2 z) in
       subst (λ (p : Path). Distinct p.enodes) (sym (join_over next f t m.together))
       (distinct_append (rising ++ (top ∷ [])) (reverse falling) (distinct_parts (rising ++ (top ∷ [])) tail first).0 (distinct_reverse falling second.0) apart)
 

@@ -14,15 +14,12 @@ use Rattle.model.proofs.Citations.{Cited, CitedEarlier, cited_earlier_more}
 
 without_gone : (ss : List Standing) (a b : ℕ) → stands (without ss a b) a b ≡ None
 without_gone [] a b = refl
-without_gone (s ∷ ss) a b = let ih = without_gone ss a b in grind (arith, nat_tests)
+without_gone (s ∷ ss) a b = grind (arith, nat_tests, without_gone ss a b)
 
 -- dropping a pair makes nothing stand
 without_stands : (ss : List Standing) (a b x y n : ℕ) → stands (without ss a b) x y ≡ Some n → stands ss x y ≡ Some n
 without_stands [] a b x y n h = h
-without_stands (s ∷ ss) a b x y n h =
-    let gone = without_gone ss a b in
-    let ih : stands (without ss a b) x y ≡ Some n → stands ss x y ≡ Some n = without_stands ss a b x y n in
-    grind (arith, nat_tests, ih)
+without_stands (s ∷ ss) a b x y n h = grind (arith, nat_tests, without_gone ss a b, without_stands ss a b x y n)
 
 pub record Sound (m : Memory) : Type 0 where
   pub standing : (a b n : ℕ) → stands m.standing a b ≡ Some n → n < length m.entries
@@ -70,7 +67,7 @@ sound_filed m p e cites bare s = record {
 -- an entry that is not on file reads as nothing
 reads_past : (es : List Entry) (n : ℕ) → length es ≤ n → reads es n ≡ []
 reads_past [] n h = refl
-reads_past (e ∷ es) n h = let ih : reads es n ≡ [] = reads_past es n (omega arith) in grind (arith, nat_tests)
+reads_past (e ∷ es) n h = grind (arith, nat_tests, reads_past es n)
 
 turned_entry_is : (segs : List Segment) (inner : ℕ) → turned_entry segs ≡ Some inner → segs ≡ entry inner false ∷ []
 turned_entry_is [] inner h = cc

@@ -30,7 +30,7 @@ partway_start size = record { distinct = tt; below = λ y m. grind arith }
 pub partway_more : (size : ℕ) (done : List ℕ) (e : ℕ) → Partway size done → e < size → met e done ≡ false → Partway size (done ++ (e ∷ []))
 partway_more size done e p lt new = record {
   distinct = distinct_append done (e ∷ []) p.distinct (refl, tt) (λ z h. grind (arith, nat_tests));
-  below = λ y m. let at = met_append y done (e ∷ []) in let b : met y done ≡ true → y < size = p.below y in grind (arith, nat_tests, b);
+  below = λ y m. grind (arith, nat_tests, met_append y done (e ∷ []), p.below y);
 }
 
 partway_room : (size : ℕ) (done : List ℕ) → Partway size done → Room size (size - length done) (reverse done)

@@ -66,4 +66,4 @@ module _ (next : Links) (root : Option ℕ) (size : ℕ) where
 
     -- a root walk that does not come to its root is closed
     pub walk_closed : (e : ℕ) → e < size → ((x : ℕ) → met x (root_walk next size root e).enodes ≡ true → is_root root x ≡ false) → Closed next (root_walk next size root e).enodes
-    walk_closed e lt rootless x l h n = let on = leads_on size [] e (room_start size size (omega arith)) lt x l h n (rootless x h) in grind (arith, on)
+    walk_closed e lt rootless x l h n = grind (arith, leads_on size [] e (room_start size size (omega arith)) lt x l h n (rootless x h))
