@@ -68,14 +68,7 @@ pub record Linked (gs : List Given) (e : ℕ) (l : Link) : Type 0 where
 
 module _ (counts : ℕ → Bool) (gs : List Given) (e : ℕ) (l : Link) (is : links counts gs e ≡ Some l) where
   parts : (newest (counting counts e) gs (length gs) ≡ Some l.given) × ((given_at gs l.given).to ≡ l.to)
-  parts = go (newest (counting counts e) gs (length gs)) refl is
-    where
-      go : (o : Option ℕ) → newest (counting counts e) gs (length gs) ≡ o → as_link gs o ≡ Some l → (newest (counting counts e) gs (length gs) ≡ Some l.given) × ((given_at gs l.given).to ≡ l.to)
-      go None p q = absurd (cc)
-      go (Some n) p q =
-          let same : n ≡ l.given = cc in
-          let at : (given_at gs n).to ≡ l.to = cc in
-          (p ∙ ap Some same, rw (← same) at)
+  parts = grind arith
 
   -- a link follows the newest given of its enode whose frame counts
   link_newest : Newest (counting counts e) gs (length gs) l.given

@@ -178,8 +178,4 @@ module _ (before : Memory) (p : Pair) (way : Path) (laid : Laid p way) where
       where
         -- none that spans the path is kept from there
         inside : (j n : ℕ) (d : Edge) → n < length before.entries → held i j n ≡ Some d → spans end d ≡ true → ⊥
-        inside j n d _ ke sp =
-            let ends = and_parts (eqb d.from 0) (eqb d.to end) sp in
-            let first = eqb-true d.from 0 ends.0 in
-            let last = eqb-true d.to end ends.1 in
-            elim (kept_rises before.entries way.steps i j n d ke).1 [ inl q ↦ omega arith | inr q ↦ omega arith ]
+        inside j n d _ ke sp = grind (arith, nat_tests, kept_rises before.entries way.steps i j n d ke)

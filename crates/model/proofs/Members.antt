@@ -80,7 +80,7 @@ distinct_reverse [] d = tt
 distinct_reverse (x ∷ xs) d =
     rw reverse-cons (distinct_append (reverse xs) (x ∷ []) (distinct_reverse xs d.1) (refl, tt) (λ z h. grind (arith, nat_tests, met_reverse z xs)))
 
--- the same words in the library's
+-- the same in the library's words
 met_any : (x : ℕ) (xs : List ℕ) → met x xs ≡ list_any (eqb x) xs
 met_any x [] = refl
 met_any x (y ∷ ys) = ap (λ b. eqb x y || b) (met_any x ys)

@@ -1,5 +1,6 @@
 -- The places of a path, each with an enode of its own. Assumes nothing.
 use Rattle.std.proofs.Common.{◌≡◌, ℕ, zero, suc, ◌<◌, Bool, List, [], ◌∷◌, length, get_or, drop, Some, None, sym, refl, ap, ◌∙◌, subst, arith}
+use Rattle.std.proofs.lemmas.List.{length-map}
 use Rattle.model.specs.declared.items.Pair.{Pair}
 use Rattle.model.specs.declared.items.Step.{Step}
 use Rattle.model.specs.Records.{Given}
@@ -7,6 +8,7 @@ use Rattle.model.specs.Walks.{Distinct, links, last}
 use Rattle.model.specs.Paths.{Path, path}
 use Rattle.model.specs.PathLaws.{arrival, Joins, meets}
 use Rattle.model.proofs.Links.{linked}
+use Rattle.model.proofs.Steps.{meets_arrivals}
 use Rattle.model.proofs.Paths.{first_walk, second_walk, path_found, walks_meet, join_distinct, join_joins, join_meets}
 
 -- the element at a place, and those after it
@@ -26,12 +28,10 @@ pub record Laid (p : Pair) (way : Path) : Type 0 where
 
 -- the enodes that steps meet, by place
 pub meets_count : (gs : List Given) (x : ℕ) (ss : List Step) → length (meets gs x ss) ≡ suc (length ss)
-meets_count gs x [] = refl
-meets_count gs x (s ∷ ss) = ap suc (meets_count gs (arrival gs s) ss)
+meets_count gs x ss = ap length (meets_arrivals gs x ss) ∙ ap suc (length-map ss (arrival gs))
 
 pub meets_first : (gs : List Given) (x : ℕ) (ss : List Step) → get_or (meets gs x ss) 0 0 ≡ x
-meets_first gs x [] = refl
-meets_first gs x (s ∷ ss) = refl
+meets_first gs x ss = ap (λ es. get_or es 0 0) (meets_arrivals gs x ss)
 
 pub meets_last : (gs : List Given) (ss : List Step) (x y : ℕ) → Joins gs ss x y → get_or (meets gs x ss) (length ss) 0 ≡ y
 meets_last gs [] x y h = h

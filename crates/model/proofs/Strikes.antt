@@ -41,10 +41,7 @@ reduced_tail s (t ∷ ts) c = c.1
 
 prepend_reduced : (s : Step) (w : List Step) → Reduced w → Reduced (prepend s w)
 prepend_reduced s [] c = tt
-prepend_reduced s (t ∷ ts) c = elim (cases_Bool (same_step t (turn_step s))) [
-  | inl e ↦ rw e (reduced_tail t ts c)
-  | inr e ↦ rw e (e, c)
-]
+prepend_reduced s (t ∷ ts) c = grind (arith, reduced_tail t ts c, c)
 
 pub reduce_reduced : (ss w : List Step) → Reduced w → Reduced (reduce ss w)
 reduce_reduced [] w c = c
