@@ -60,19 +60,7 @@ module _ (es : List Entry) (ss : List Step) where
   Turned i j n d = (j < i) × (reads es n ≡ turned (stretch ss j i)) × (d ≡ record { from = j; to = i; segment = entry n false })
 
   pub kept_cases : (i j n : ℕ) (d : Edge) → kept (reads es) ss i j n ≡ Some d → Straight i j n d ⊎ Turned i j n d
-  kept_cases i j n d h = straight (ltb i j && same_steps (reads es n) (stretch ss i j)) refl
-    where
-      back : (b : Bool) → (ltb j i && same_steps (reads es n) (turned (stretch ss j i))) ≡ b → (ltb i j && same_steps (reads es n) (stretch ss i j)) ≡ false → Straight i j n d ⊎ Turned i j n d
-      back true e f =
-          let p = and_parts (ltb j i) (same_steps (reads es n) (turned (stretch ss j i))) e in
-          inr (ltb-true j i p.0, same_steps_eq (reads es n) (turned (stretch ss j i)) p.1, cc)
-      back false e f = absurd (cc)
-
-      straight : (b : Bool) → (ltb i j && same_steps (reads es n) (stretch ss i j)) ≡ b → Straight i j n d ⊎ Turned i j n d
-      straight true e =
-          let p = and_parts (ltb i j) (same_steps (reads es n) (stretch ss i j)) e in
-          inl (ltb-true i j p.0, same_steps_eq (reads es n) (stretch ss i j) p.1, cc)
-      straight false e = back (ltb j i && same_steps (reads es n) (turned (stretch ss j i))) refl e
+  kept_cases i j n d h = grind (arith, nat_tests, same_steps_eq (reads es n) (stretch ss i j), same_steps_eq (reads es n) (turned (stretch ss j i)))
 
   pub kept_good : (i j n : ℕ) (d : Edge) → n < length es → kept (reads es) ss i j n ≡ Some d → Good d
   kept_good i j n d lt h = elim (kept_cases i j n d h) [

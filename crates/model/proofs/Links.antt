@@ -33,10 +33,7 @@ module _ (test : Given → Bool) (gs : List Given) where
 
   pub newest_none : (n : ℕ) → newest test gs n ≡ None → (j : ℕ) → j < n → test (given_at gs j) ≡ false
   newest_none zero h j lt = absurd (omega arith)
-  newest_none (suc n) h j lt = elim (cases_Bool (test (given_at gs n))) [
-    | inl e ↦ let found : Some n ≡ None = rw e at h in absurd (cc)
-    | inr e ↦ elim (cases_eq j n) [ inl s ↦ rw s e | inr ne ↦ newest_none n (rw e at h) j (omega arith) ]
-  ]
+  newest_none (suc n) h j lt = grind (arith, newest_none n)
 
   -- below a number from which on none passes, nothing is missed
   pub newest_skip : (n k : ℕ) → k ≤ n → ((j : ℕ) → k ≤ j → j < n → test (given_at gs j) ≡ false) → newest test gs n ≡ newest test gs k

@@ -18,10 +18,6 @@ use Rattle.model.proofs.Strikes.{Reduced, reduce, reduce_reduced, reduce_append,
 use Rattle.model.proofs.Confluence.{join_over}
 use Rattle.model.proofs.Paths.{Meeting, join_turned, rising_follows, falling_follows, rises, falls, join_distinct, join_reduces, join_joins, join_meets, first_walk, second_walk, path_found, path_made, walks_meet}
 
-some_if_true : {A : Type 0} (b : Bool) (x : A) → is_some (some_if b x) ≡ b
-some_if_true true x = refl
-some_if_true false x = refl
-
 module _ (next : Links) (size : ℕ) (within : Within next size) where
   abbrev W : ℕ → List ℕ
   W e = first_walk next size e
@@ -56,10 +52,7 @@ module _ (next : Links) (size : ℕ) (within : Within next size) where
         root_last next (Some f) size [] b f there (eq-eqb f f refl)
 
     path_exists : is_some (path next size a b) ≡ check_eq next size a b
-    path_exists =
-        let there : eqb f (last b T) ≡ true → shares (W a) (W b) ≡ true = λ h. ends_share (eqb-true f (last b T) h) in
-        let back : shares (W a) (W b) ≡ true → eqb f (last b T) ≡ true = λ h. eq-eqb f (last b T) (share_ends h) in
-        some_if_true (eqb f (last b T)) (join next (W a) T) ∙ grind (arith, there, back)
+    path_exists = grind (arith, nat_tests, ends_share, share_ends)
 
   -- where a's walk has no circle, the second walk is the one that is told no root
   record Plain (a b : ℕ) (p : Path) : Type 0 where

@@ -114,17 +114,7 @@ pub record Found (next : Links) (size a b : ℕ) (p : Path) : Type 0 where
   pub is : p ≡ join next (first_walk next size a) (second_walk next size a b)
 
 pub path_found : (next : Links) (size a b : ℕ) (p : Path) → path next size a b ≡ Some p → Found next size a b p
-path_found next size a b p h = go (eqb (last a f) (last b t)) refl h
-  where
-    f : List ℕ
-    f = first_walk next size a
-
-    t : List ℕ
-    t = second_walk next size a b
-
-    go : (e : Bool) → eqb (last a f) (last b t) ≡ e → some_if e (join next f t) ≡ Some p → Found next size a b p
-    go false e q = absurd (cc)
-    go true e q = record { ends = eqb-true (last a f) (last b t) e; is = cc }
+path_found next size a b p h = record { ends = grind (arith, nat_tests); is = grind (arith, nat_tests) }
 
 pub path_made : (next : Links) (size a b : ℕ) → last a (first_walk next size a) ≡ last b (second_walk next size a b) → path next size a b ≡ Some (join next (first_walk next size a) (second_walk next size a b))
 path_made next size a b h = rw (eq-eqb _ _ h)

@@ -57,12 +57,8 @@ sound_filed m p e cites bare s = record {
       let old : stands (without m.standing p.from p.to) x y ≡ Some n → n < length m.entries = λ r. s.standing x y n (without_stands m.standing p.from p.to x y n r) in
       grind (arith, nat_tests, old);
   cited = (cites, s.cited);
-  marks = λ n h. go n (eqb n (length m.entries)) refl h;
+  marks = λ n h. grind (arith, nat_tests, bare, s.marks n);
 }
-  where
-    go : (n : ℕ) (b : Bool) → eqb n (length m.entries) ≡ b → is_mark (entry_at (e ∷ m.entries) n).segments ≡ true → reads (e ∷ m.entries) n ≡ []
-    go n true q h = rw (q, reads) (bare (rw (q, entry_at) at h))
-    go n false q h = rw (q, reads) (s.marks n (rw (q, entry_at) at h))
 
 -- an entry that is not on file reads as nothing
 reads_past : (es : List Entry) (n : ℕ) → length es ≤ n → reads es n ≡ []
@@ -70,27 +66,16 @@ reads_past [] n h = refl
 reads_past (e ∷ es) n h = grind (arith, nat_tests, reads_past es n)
 
 turned_entry_is : (segs : List Segment) (inner : ℕ) → turned_entry segs ≡ Some inner → segs ≡ entry inner false ∷ []
-turned_entry_is [] inner h = cc
-turned_entry_is (step s u ∷ ss) inner h = cc
-turned_entry_is (mark e ∷ ss) inner h = cc
-turned_entry_is (entry n true ∷ ss) inner h = cc
-turned_entry_is (entry n false ∷ []) inner h = cc
-turned_entry_is (entry n false ∷ t ∷ ss) inner h = cc
+turned_entry_is segs inner h = grind arith
 
 module _ (ss : List Step) (some : 0 < length ss) where
   -- an entry with steps is on file
   pub reads_filed : (es : List Entry) (n : ℕ) → reads es n ≡ ss → n < length es
-  reads_filed es n h = elim (cases_lt n (length es)) [
-    | inl lt ↦ lt
-    | inr ge ↦ absurd (omega (arith, ap length (sym h ∙ reads_past es n ge)))
-  ]
+  reads_filed es n h = grind (arith, reads_past es n)
 
   -- and is no mark
   pub reads_no_mark : (m : Memory) → Sound m → (n : ℕ) → reads m.entries n ≡ ss → is_mark (entry_at m.entries n).segments ≡ false
-  reads_no_mark m s n h = elim (cases_Bool (is_mark (entry_at m.entries n).segments)) [
-    | inl e ↦ absurd (omega (arith, ap length (sym h ∙ s.marks n e)))
-    | inr e ↦ e
-  ]
+  reads_no_mark m s n h = grind (arith, s.marks n)
 
   reads_more : (x : Entry) (es : List Entry) (n : ℕ) → reads es n ≡ ss → reads (x ∷ es) n ≡ ss
   reads_more x es n h = longer_reads (longer_one x es) n (reads_filed es n h) ∙ h

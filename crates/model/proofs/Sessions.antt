@@ -28,10 +28,10 @@ ends_more gs m n le h k lt = let e = h k lt in (omega (arith, e.0), omega (arith
 
 ends_given : (gs : List Given) (g : Given) (n : ℕ) → EndsKnown gs n → g.from < n → g.to < n → EndsKnown (gs ++ (g ∷ [])) n
 ends_given gs g n h lf lt k below = elim (cases_lt k (length gs)) [
-  | inl old ↦ subst (λ (x : Given). (x.from < n) × (x.to < n)) (sym (get_or_append_left gs (g ∷ []) no_given k old)) (h k old)
+  | inl old ↦ rw (get_or_append_left gs (g ∷ []) no_given k old) (h k old)
   | inr new ↦
       let last : length gs ≡ k = omega (arith, length-append gs (g ∷ [])) in
-      subst (λ (x : Given). (x.from < n) × (x.to < n)) (sym (get_or_push gs g no_given k last)) (lf, lt)
+      rw (get_or_push gs g no_given k last) (lf, lt)
 ]
 
 pub record InOrder (s : Session) : Type 0 where

@@ -41,10 +41,7 @@ last_any x d d' (y ∷ ys) h = refl
 
 -- two walks that go on alike from the link's end are alike
 pub visit_same : (e : ℕ) (on on' : ℕ → Walk) (b r : Bool) (k : Option Link) → ((l : Link) → b ≡ false → k ≡ Some l → on l.to ≡ on' l.to) → visit e on b r k ≡ visit e on' b r k
-visit_same e on on' true r k same = refl
-visit_same e on on' false true k same = refl
-visit_same e on on' false false None same = refl
-visit_same e on on' false false (Some l) same = ap (λ (w : Walk). record { enodes = e ∷ w.enodes; ending = w.ending }) (same l refl refl)
+visit_same e on on' b r k same = grind (arith, same)
 
 module _ (next : Links) (root : Option ℕ) where
   abbrev walked : ℕ → List ℕ → ℕ → List ℕ
