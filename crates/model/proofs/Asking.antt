@@ -34,20 +34,12 @@ bare (step s u) = step s None
 bare (entry n w) = entry n w
 bare (mark e) = mark e
 
-bare_one : (read : ℕ → List Step) (s : Segment) → segment_steps read (bare s) ≡ segment_steps read s
-bare_one read (step s u) = refl
-bare_one read (entry n w) = refl
-bare_one read (mark e) = refl
-
 bare_steps : (read : ℕ → List Step) (ts : List Segment) → segments_steps read (map bare ts) ≡ segments_steps read ts
 bare_steps read [] = refl
-bare_steps read (t ∷ ts) = cc (bare_one read t, bare_steps read ts)
+bare_steps read (t ∷ ts) = grind (arith, bare_steps read ts)
 
 is_mark_bare : (ts : List Segment) → is_mark (map bare ts) ≡ is_mark ts
-is_mark_bare [] = refl
-is_mark_bare (step s u ∷ ts) = refl
-is_mark_bare (entry n w ∷ ts) = refl
-is_mark_bare (mark e ∷ ts) = refl
+is_mark_bare ts = grind arith
 
 on_file_more : {m n : ℕ} → m ≤ n → (s : Segment) → OnFile m s → OnFile n s
 on_file_more le (step s u) h = tt

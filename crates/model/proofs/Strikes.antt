@@ -54,12 +54,7 @@ prepend_new s (t ∷ ts) c = rw c.0
 -- there and back changes nothing
 prepend_back : (s : Step) (w : List Step) → Reduced w → prepend s (prepend (turn_step s) w) ≡ w
 prepend_back s [] c = let r = same_step_refl (turn_step s) in rw r
-prepend_back s (t ∷ ts) c = elim (cases_Bool (same_step t (turn_step (turn_step s)))) [
-  | inl e ↦
-      let q : t ≡ s = same_step_eq t (turn_step (turn_step s)) e ∙ turn_turn s in
-      rw e (prepend_new s ts (subst (λ x. Reduced (x ∷ ts)) q c) ∙ ap (λ x. x ∷ ts) (sym q))
-  | inr e ↦ let r = same_step_refl (turn_step s) in rw (e, r)
-]
+prepend_back s (t ∷ ts) c = grind (arith, same_step_eq t (turn_step (turn_step s)), same_step_refl (turn_step s), turn_turn s, prepend_new s ts, c)
 
 pub reduce_append : (xs ys w : List Step) → reduce (xs ++ ys) w ≡ reduce xs (reduce ys w)
 reduce_append [] ys w = refl
@@ -125,14 +120,5 @@ meets_first gs x (s ∷ ss) = met_head x (meets gs (arrival gs s) ss)
 pub joins_reduced : (gs : List Given) (ss : List Step) (x y : ℕ) → Joins gs ss x y → Distinct (meets gs x ss) → Reduced ss
 joins_reduced gs [] x y j d = tt
 joins_reduced gs (s ∷ []) x y j d = tt
-joins_reduced gs (s ∷ t ∷ ts) x y j d = (
-  elim (cases_Bool (same_step t (turn_step s))) [
-    | inl e ↦
-        let r : arrival gs t ≡ x = ap (arrival gs) (same_step_eq t (turn_step s) e) ∙ arrival_turn gs s ∙ j.1 in
-        let m = meets_first gs (arrival gs t) ts in
-        let n : met x (arrival gs s ∷ meets gs (arrival gs t) ts) ≡ false = d.0 in
-        grind (arith, nat_tests)
-    | inr e ↦ e
-  ],
-  joins_reduced gs (t ∷ ts) (arrival gs s) y j.2 d.1,
-)
+joins_reduced gs (s ∷ t ∷ ts) x y j d =
+    (grind (arith, nat_tests, same_step_eq t (turn_step s), arrival_turn gs s, meets_first gs (arrival gs t) ts, d.0), joins_reduced gs (t ∷ ts) (arrival gs s) y j.2 d.1)
