@@ -19,8 +19,8 @@ pub record Confluent (f t : List ℕ) : Type 0 where
   pub second_is : t ≡ falling ++ (top ∷ tail)
   pub apart : Apart rising falling
 
-abbrev pub confluent_sym : (f t : List ℕ) → Confluent f t → Confluent t f
-confluent_sym f t m = record {
+abbrev pub confluent_sym : {f t : List ℕ} → Confluent f t → Confluent t f
+confluent_sym m = record {
   rising = m.falling;
   falling = m.rising;
   top = m.top;
@@ -110,12 +110,8 @@ over next rising top falling = record {
 
 join_parts : (next : Links) (rising falling tail : List ℕ) (top : ℕ) → Apart rising falling → join next (rising ++ (top ∷ tail)) (falling ++ (top ∷ tail)) ≡ over next rising top falling
 join_parts next rising falling tail top apart =
-    let n = shared_tail rising falling (top ∷ tail) apart in
-    let rise = without_tail rising (top ∷ tail) in
-    let fall = without_tail falling (top ∷ tail) in
-    let to_top = up_to_top rising tail top in
-    rw n (λ i. record { enodes = to_top i ++ reverse (fall i); steps = map (up next) (rise i) ++ turned (map (up next) (fall i)) })
+    simp (shared_tail rising falling (top ∷ tail) apart, without_tail rising (top ∷ tail), without_tail falling (top ∷ tail), up_to_top rising tail top)
 
 -- the path that joins confluent lists is over their top
-pub join_over : (next : Links) (f t : List ℕ) (m : Confluent f t) → join next f t ≡ over next m.rising m.top m.falling
-join_over next f t m = (λ i. join next (m.first_is i) (m.second_is i)) ∙ join_parts next m.rising m.falling m.tail m.top m.apart
+pub join_over : (next : Links) {f t : List ℕ} (m : Confluent f t) → join next f t ≡ over next m.rising m.top m.falling
+join_over next m = (λ i. join next (m.first_is i) (m.second_is i)) ∙ join_parts next m.rising m.falling m.tail m.top m.apart

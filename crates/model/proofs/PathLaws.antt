@@ -80,10 +80,10 @@ module _ (next : Links) (size : ℕ) (within : Within next size) where
       let falling = m.together.falling in
       let top = m.together.top in
       let tail = m.together.tail in
-      let from_a = rising_follows next a b (W a) (W b) m in
+      let from_a = rising_follows m in
       record {
         of_first = follows_ancestor next a top (rising ++ (top ∷ tail)) from_a (grind (arith, nat_tests, met_append top rising (top ∷ tail)));
-        of_second = follows_ancestor next b top (falling ++ (top ∷ tail)) (falling_follows next a b (W a) (W b) m) (grind (arith, nat_tests, met_append top falling (top ∷ tail)));
+        of_second = follows_ancestor next b top (falling ++ (top ∷ tail)) (falling_follows m) (grind (arith, nat_tests, met_append top falling (top ∷ tail)));
         nearest = λ z above_a above_b.
             let z_a : met z (rising ++ (top ∷ tail)) ≡ true = subst (λ w. met z w ≡ true) m.together.first_is (has_ancestors a z la above_a) in
             let z_b : met z (falling ++ (top ∷ tail)) ≡ true = subst (λ w. met z w ≡ true) m.together.second_is (has_ancestors b z lb above_b) in
@@ -99,9 +99,9 @@ module _ (next : Links) (size : ℕ) (within : Within next size) where
         is_nearest = top_nearest a b la lb m;
         rising = map (up next) m.together.rising;
         falling = map (up next) m.together.falling;
-        rises = rises next a b (W a) (W b) m;
-        falls = falls next a b (W a) (W b) m;
-        is = ap (λ (q : Path). q.steps) (pl.is ∙ join_over next (W a) (W b) m.together);
+        rises = rises m;
+        falls = falls m;
+        is = ap (λ (q : Path). q.steps) (pl.is ∙ join_over next m.together);
       }
 
   path_turns : (a b : ℕ) → a < size → b < size → (p : Path) → NoCircle a (root_walk next size None a) → path next size a b ≡ Some p →
@@ -110,7 +110,7 @@ module _ (next : Links) (size : ℕ) (within : Within next size) where
       let end = walk_terminal next size a la nc in
       let pl = plain a b p end h in
       let m = plain_meet a b la lb pl.ends in
-      (join next (W b) (W a), plain_made b a (subst (Terminal next) pl.ends end) (sym pl.ends), join_turned next (W a) (W b) m.together ∙ ap (λ (q : Path). turned q.steps) (sym pl.is))
+      (join next (W b) (W a), plain_made b a (subst (Terminal next) pl.ends end) (sym pl.ends), join_turned next m.together ∙ ap (λ (q : Path). turned q.steps) (sym pl.is))
 
   module _ (gs : List Given) (ok : (e : ℕ) (l : Link) → next e ≡ Some l → Linked gs e l) where
     path_joins : (a b : ℕ) → a < size → b < size → (p : Path) → path next size a b ≡ Some p → Joins gs p.steps a b × (meets gs a p.steps ≡ p.enodes) × Distinct p.enodes
@@ -120,7 +120,7 @@ module _ (next : Links) (size : ℕ) (within : Within next size) where
         let t = second_walk next size a b in
         let m = walks_meet next size None (Some root) a b la lb found.ends in
         subst (λ (q : Path). Joins gs q.steps a b × (meets gs a q.steps ≡ q.enodes) × Distinct q.enodes) (sym found.is)
-        (join_joins next a b (W a) t m gs ok, join_meets next a b (W a) t m gs ok, join_distinct next a b (W a) t m)
+        (join_joins m gs ok, join_meets m gs ok, join_distinct m)
 
     -- the walks' words cancel in the middle
     joins_cancel : (a b c : ℕ) → Meeting next a b (W a) (W b) → Meeting next b c (W b) (W c) → Meeting next a c (W a) (W c) →
@@ -131,10 +131,10 @@ module _ (next : Links) (size : ℕ) (within : Within next size) where
         let C = map (up next) (W c) in
         let q = (join next (W b) (W c)).steps in
         reduce_append (join next (W a) (W b)).steps q []
-        ∙ join_reduces next a b (W a) (W b) ab (reduce q []) (reduce_reduced q [] tt)
-        ∙ ap (λ w. reduce A (reduce (turned B) w)) (join_reduces next b c (W b) (W c) bc [] tt)
+        ∙ join_reduces ab (reduce q []) (reduce_reduced q [] tt)
+        ∙ ap (λ w. reduce A (reduce (turned B) w)) (join_reduces bc [] tt)
         ∙ ap (reduce A) (reduce_forth B (reduce (turned C) []) (reduce_reduced (turned C) [] tt))
-        ∙ sym (join_reduces next a c (W a) (W c) ac [] tt)
+        ∙ sym (join_reduces ac [] tt)
 
     paths_compose : (a b c : ℕ) → a < size → b < size → c < size → (p q : Path) → NoCircle a (root_walk next size None a) → path next size a b ≡ Some p → path next size b c ≡ Some q →
         (r : Path) × (path next size a c ≡ Some r)
@@ -147,7 +147,7 @@ module _ (next : Links) (size : ℕ) (within : Within next size) where
         let e : last a (W a) ≡ last c (W c) = pl.ends ∙ ql.ends in
         let ac = plain_meet a c la lc e in
         let r = join next (W a) (W c) in
-        let reduced : Reduced r.steps = joins_reduced gs r.steps a c (join_joins next a c (W a) (W c) ac gs ok) (subst Distinct (sym (join_meets next a c (W a) (W c) ac gs ok)) (join_distinct next a c (W a) (W c) ac)) in
+        let reduced : Reduced r.steps = joins_reduced gs r.steps a c (join_joins ac gs ok) (subst Distinct (sym (join_meets ac gs ok)) (join_distinct ac)) in
         let total : reduce (p.steps ++ q.steps) [] ≡ r.steps =
         (λ i. reduce ((pl.is i).steps ++ (ql.is i).steps) [])
         ∙ joins_cancel a b c (plain_meet a b la lb pl.ends) (plain_meet b c lb lc ql.ends) ac

@@ -51,10 +51,10 @@ path_laid counts gs size p way la lb ne h =
     let t = second_walk next size a b in
     let found = path_found next size a b way h in
     let m = walks_meet next size None (Some (last a f)) a b la lb found.ends in
-    let joins : Joins gs way.steps a b = subst (λ (w : Path). Joins gs w.steps a b) (sym found.is) (join_joins next a b f t m gs (linked counts gs)) in
-    let meets_all : meets gs a way.steps ≡ way.enodes = subst (λ (w : Path). meets gs a w.steps ≡ w.enodes) (sym found.is) (join_meets next a b f t m gs (linked counts gs)) in
+    let joins : Joins gs way.steps a b = subst (λ (w : Path). Joins gs w.steps a b) (sym found.is) (join_joins m gs (linked counts gs)) in
+    let meets_all : meets gs a way.steps ≡ way.enodes = subst (λ (w : Path). meets gs a w.steps ≡ w.enodes) (sym found.is) (join_meets m gs (linked counts gs)) in
     record {
-      once = subst (λ (w : Path). Distinct w.enodes) (sym found.is) (join_distinct next a b f t m);
+      once = subst (λ (w : Path). Distinct w.enodes) (sym found.is) (join_distinct m);
       count = ap length (sym meets_all) ∙ meets_count gs a way.steps;
       first = ap (λ es. get_or es 0 0) (sym meets_all) ∙ meets_first gs a way.steps;
       last = ap (λ es. get_or es (length way.steps) 0) (sym meets_all) ∙ meets_last gs way.steps a b joins;

@@ -25,16 +25,16 @@ pub record Meeting (next : Links) (a b : ℕ) (f t : List ℕ) : Type 0 where
   pub together : Confluent f t
 
 -- the path back is the path read from its other end
-pub join_turned : (next : Links) (f t : List ℕ) → Confluent f t → (join next t f).steps ≡ turned (join next f t).steps
-join_turned next f t m =
+pub join_turned : (next : Links) {f t : List ℕ} → Confluent f t → (join next t f).steps ≡ turned (join next f t).steps
+join_turned next m =
     let rising = map (up next) m.rising in
     let falling = map (up next) m.falling in
-    ap (λ (p : Path). p.steps) (join_over next t f (confluent_sym f t m))
+    ap (λ (p : Path). p.steps) (join_over next (confluent_sym m))
     ∙ ap (λ r. r ++ turned rising) (sym (turned_turned falling))
     ∙ sym (turned_append rising (turned falling))
-    ∙ ap (λ (p : Path). turned p.steps) (sym (join_over next f t m))
+    ∙ ap (λ (p : Path). turned p.steps) (sym (join_over next m))
 
-module _ (next : Links) (a b : ℕ) (f t : List ℕ) (m : Meeting next a b f t) where
+module _ {next : Links} {a b : ℕ} {f t : List ℕ} (m : Meeting next a b f t) where
   abbrev rising : List ℕ
   rising = m.together.rising
 
@@ -64,7 +64,7 @@ module _ (next : Links) (a b : ℕ) (f t : List ℕ) (m : Meeting next a b f t) 
       let first : Distinct ((rising ++ (top ∷ [])) ++ tail) = subst Distinct (m.together.first_is ∙ sym (append_assoc rising (top ∷ []) tail)) m.once_first in
       let second = distinct_parts falling (top ∷ tail) (subst Distinct m.together.second_is m.once_second) in
       let apart : Apart (rising ++ (top ∷ [])) (reverse falling) = λ z h. grind (arith, nat_tests, met_append z rising (top ∷ []), met_reverse z falling, m.together.apart z, second.2 z) in
-      subst (λ (p : Path). Distinct p.enodes) (sym (join_over next f t m.together))
+      subst (λ (p : Path). Distinct p.enodes) (sym (join_over next m.together))
       (distinct_append (rising ++ (top ∷ [])) (reverse falling) (distinct_parts (rising ++ (top ∷ [])) tail first).0 (distinct_reverse falling second.0) apart)
 
   -- as words, up the first list and down the second
@@ -76,7 +76,7 @@ module _ (next : Links) (a b : ℕ) (f t : List ℕ) (m : Meeting next a b f t) 
       let first : map (up next) f ≡ R ++ K = ap (map (up next)) m.together.first_is ∙ map-append (up next) rising (top ∷ tail) in
       let second : map (up next) t ≡ L ++ K = ap (map (up next)) m.together.second_is ∙ map-append (up next) falling (top ∷ tail) in
       let back = reduce (turned L) w in
-      ap (λ (p : Path). reduce p.steps w) (join_over next f t m.together)
+      ap (λ (p : Path). reduce p.steps w) (join_over next m.together)
       ∙ reduce_append R (turned L) w
       ∙ ap (reduce R) (sym (reduce_back K back (reduce_reduced (turned L) w c)))
       ∙ sym (reduce_append R K (reduce (turned K) back))
@@ -86,7 +86,7 @@ module _ (next : Links) (a b : ℕ) (f t : List ℕ) (m : Meeting next a b f t) 
   module _ (gs : List Given) (ok : (e : ℕ) (l : Link) → next e ≡ Some l → Linked gs e l) where
     pub join_joins : Joins gs (join next f t).steps a b
     join_joins =
-        subst (λ (p : Path). Joins gs p.steps a b) (sym (join_over next f t m.together))
+        subst (λ (p : Path). Joins gs p.steps a b) (sym (join_over next m.together))
         (joins_append gs (map (up next) rising) (turned (map (up next) falling)) a top b (climbs_join next gs ok (map (up next) rising) a top rises)
         (joins_turned gs (map (up next) falling) b top (climbs_join next gs ok (map (up next) falling) b top falls)))
 
@@ -94,12 +94,12 @@ module _ (next : Links) (a b : ℕ) (f t : List ℕ) (m : Meeting next a b f t) 
     join_meets =
         let R = map (up next) rising in
         let L = map (up next) falling in
-        ap (λ (p : Path). meets gs a p.steps) (join_over next f t m.together)
+        ap (λ (p : Path). meets gs a p.steps) (join_over next m.together)
         ∙ meets_arrivals gs a (R ++ turned L)
         ∙ ap (λ r. a ∷ r) (map-append (arrival gs) R (turned L))
         ∙ ap (λ r. r ++ map (arrival gs) (turned L)) (sym (meets_arrivals gs a R) ∙ climb_meets next gs ok a top rising tail rising_follows)
         ∙ ap (λ r. (rising ++ (top ∷ [])) ++ r) (arrivals_turned gs L ∙ ap reverse (climb_starts next gs ok b top falling tail falling_follows))
-        ∙ ap (λ (p : Path). p.enodes) (sym (join_over next f t m.together))
+        ∙ ap (λ (p : Path). p.enodes) (sym (join_over next m.together))
 
 -- the walk with no root, and the one that is told its last enode as root
 abbrev pub first_walk : Links → ℕ → ℕ → List ℕ
