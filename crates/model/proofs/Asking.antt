@@ -11,7 +11,7 @@ use Rattle.model.specs.Refusals.{Refusal}
 use Rattle.model.specs.Walks.{Links}
 use Rattle.model.specs.Paths.{Path}
 use Rattle.model.specs.Memory.{Segment, step, entry, mark, Entry, Memory, stands, uses_of, entry_at, is_mark, turned_entry}
-use Rattle.model.specs.Reading.{reads, segment_steps, segments_steps}
+use Rattle.model.specs.Reading.{reads, segments_steps}
 use Rattle.model.specs.Chains.{chain}
 use Rattle.model.specs.RunLaws.{OpenChain}
 use Rattle.model.specs.Acts.{Question, Act, Done, done, stop, pure}
@@ -237,27 +237,27 @@ module _ (next : Links) (records : Records) (places : Places) where
           abbrev EndsSeen : ℕ → ℕ → Type 0
           EndsSeen a b = (⊥ ⊎ (a ≡ 0)) ⊎ (a ≡ length ss)
 
-          from_end_does : (f : Found) {m : Memory} → Sound m → Looked before p way laid EndsSeen (Back es) f m → (o : Option ℕ) → f.spanning ≡ o → Answers before (Q.from_end next records places level nested p way f o) m
+          from_end_does : (f : Found) {m : Memory} → Sound m → Looked before laid EndsSeen (Back es) f m → (o : Option ℕ) → f.spanning ≡ o → Answers before (Q.from_end next records places level nested p way f o) m
           from_end_does f {m} s l (Some e) q =
               does_read _ (turn_round_does e s (subst (λ (x : List Entry). Back x e) (sym l.entries) (l.spanning e q)) (turned_entry (entry_at m.entries e).segments) refl)
           from_end_does f {m} s l None q =
               does_bind
-              (looks_does before p way laid next records places level (Refused p level) (length ss - 1) 1 (omega arith) (omega (arith, laid.some)) (drop 1 way.enodes) refl f s
-              (looking_as before p way laid (λ a b n d r _. elim r [ inl lt ↦ inl (inr (omega arith)) | inr e ↦ inr e ]) (l.goes_on q))) (λ g n _ pn k.
+              (looks_does before laid next records places level (Refused p level) (length ss - 1) 1 (omega arith) (omega (arith, laid.some)) (drop 1 way.enodes) refl f s
+              (looking_as before laid (λ a b n d r _. elim r [ inl lt ↦ inl (inr (omega arith)) | inr e ↦ inr e ]) (l.goes_on q))) (λ g n _ pn k.
               explain_does (chain g.edges ss) pn.sound (subst (λ (x : List Entry). Says x ss (chain g.edges ss) ss) (sym k.entries) (chain_says es ss g.edges k.edges))
               (chain_least before way g.edges (λ a b n d ke. k.found a b n d tt ke)))
 
-          from_start_does : (f : Found) {m : Memory} → Sound m → Looked before p way laid (λ a b. ⊥ ⊎ (a ≡ 0)) (λ n. reads es n ≡ ss) f m → (o : Option ℕ) → f.spanning ≡ o → Answers before (Q.from_start next records places level nested p way f o) m
+          from_start_does : (f : Found) {m : Memory} → Sound m → Looked before laid (λ a b. ⊥ ⊎ (a ≡ 0)) (λ n. reads es n ≡ ss) f m → (o : Option ℕ) → f.spanning ≡ o → Answers before (Q.from_start next records places level nested p way f o) m
           from_start_does f s l (Some e) q = spanning_does e s (subst (λ (x : List Entry). reads x e ≡ ss) (sym l.entries) (l.spanning e q))
           from_start_does f s l None q =
               does_bind
-              (place_does before p way laid next records places level (Refused p level) (λ a b. ⊥ ⊎ (a ≡ 0)) (Back es) (length ss) (omega arith) (λ j n d lt h t. (span_end es ss j n d h t, lt)) p.to laid.last f s (l.goes_on q))
+              (place_does before laid next records places level (Refused p level) (λ a b. ⊥ ⊎ (a ≡ 0)) (Back es) (length ss) (omega arith) (λ j n d lt h t. (span_end es ss j n d h t, lt)) p.to laid.last f s (l.goes_on q))
               (λ g n _ pn k. from_end_does g pn.sound k g.spanning refl)
 
           joined_does : Sound before → Answers before (Q.joined next records places level nested p way) before
           joined_does s =
               does_bind
-              (place_does before p way laid next records places level (Refused p level) (λ a b. ⊥) (λ n. reads es n ≡ ss) 0 (omega arith) (λ j n d lt h t. span_start es ss j n d h t) p.from laid.first none_found s
+              (place_does before laid next records places level (Refused p level) (λ a b. ⊥) (λ n. reads es n ≡ ss) 0 (omega arith) (λ j n d lt h t. span_start es ss j n d h t) p.from laid.first none_found s
               (record { entries = refl; standing = λ a b n d ke. ke.standing; edges = tt; found = λ a b n d no. absurd no; none = refl }))
               (λ f n _ pn l. from_start_does f pn.sound l f.spanning refl)
 

@@ -11,6 +11,7 @@ use Rattle.model.specs.RunLaws.{CitesBelow, AllCiteBelow, CiteEarlier}
 use Rattle.model.proofs.Members.{Below}
 use Rattle.model.proofs.Growth.{MoreUses, uses_append}
 
+-- the library says this of its other `All`
 pub all_weaker : {X : Type 0} (P Q : X → Type 0) → ((x : X) → P x → Q x) → (xs : List X) → All P xs → All Q xs
 all_weaker P Q f xs h = recursion_from_All Q xs (All-weaker P Q f xs (All-from_recursion P xs h))
 

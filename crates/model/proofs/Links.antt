@@ -1,11 +1,11 @@
 -- The newest given that passes a test, and the link that it makes. Assumes nothing.
-use Rattle.std.proofs.Common.{◌≡◌, ℕ, zero, suc, ◌<◌, ◌≤◌, Bool, true, false, cond, List, [], ◌∷◌, ◌++◌, length, Some, None, Option, sym, refl, ap, ◌∙◌, inl, inr, arith}
+use Rattle.std.proofs.Common.{◌≡◌, ℕ, zero, suc, ◌<◌, ◌≤◌, Bool, true, false, cond, List, [], ◌∷◌, ◌++◌, length, Some, None, sym, refl, ap, inl, inr, arith}
 use Rattle.std.proofs.lemmas.List.{get_or_append_left, get_or_push}
 use Rattle.std.proofs.lemmas.Bool.{cases_Bool, cases_eq}
 use Rattle.std.proofs.lemmas.Bool.Decides.{nat_tests}
 use Rattle.model.specs.declared.items.Link.{Link}
 use Rattle.model.specs.Records.{Given, no_given, given_at, newest}
-use Rattle.model.specs.Walks.{links, as_link, counting}
+use Rattle.model.specs.Walks.{links, counting}
 use Rattle.model.specs.PathLaws.{EndsKnown}
 
 module _ (test : Given → Bool) (gs : List Given) where

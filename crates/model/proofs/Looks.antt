@@ -32,7 +32,7 @@ none_spans None h = refl
 none_spans (Some n) h = absurd (h n refl)
 
 -- looks at a path's places, which begin at the memory `before`
-module _ (before : Memory) (p : Pair) (way : Path) (laid : Laid p way) where
+module _ (before : Memory) {p : Pair} {way : Path} (laid : Laid p way) where
   abbrev at : ℕ → ℕ
   at i = get_or way.enodes i 0
 

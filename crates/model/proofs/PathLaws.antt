@@ -1,12 +1,12 @@
 -- The laws of walks and paths. Assumes nothing.
-use Rattle.std.proofs.Common.{◌≡◌, ℕ, ◌<◌, Bool, true, false, eqb, List, [], ◌∷◌, ◌++◌, map, is_some, Some, None, sym, refl, ap, ◌∙◌, subst, inl, inr, arith}
-use Rattle.std.proofs.lemmas.Bool.{cases_Bool, eqb-true, eq-eqb}
+use Rattle.std.proofs.Common.{◌≡◌, ℕ, ◌<◌, true, List, [], ◌∷◌, ◌++◌, map, is_some, Some, None, sym, refl, ap, ◌∙◌, subst, inl, inr, arith}
+use Rattle.std.proofs.lemmas.Bool.{cases_Bool, eq-eqb}
 use Rattle.std.proofs.lemmas.Bool.Decides.{nat_tests}
 use Rattle.model.specs.declared.items.Link.{Link}
 use Rattle.model.specs.declared.items.Step.{Step}
 use Rattle.model.specs.Records.{Given, turned}
 use Rattle.model.specs.Walks.{Links, links, met, Distinct, root_walk, last, check_eq, shares, NoCircle}
-use Rattle.model.specs.Paths.{Path, up, join, some_if, path}
+use Rattle.model.specs.Paths.{Path, up, join, path}
 use Rattle.model.specs.PathLaws.{Joins, meets, Strikes, Bare, Ancestor, Nearest, OverNearest, WalksLawful}
 use Rattle.model.proofs.Members.{met_append, shares_from, shared_by}
 use Rattle.model.proofs.Links.{Linked, linked, link_within}

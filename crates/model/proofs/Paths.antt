@@ -1,13 +1,13 @@
 -- The path that joins two lists that come together, and the path of a pair. Assumes nothing.
-use Rattle.std.proofs.Common.{◌≡◌, ℕ, ◌<◌, Bool, true, false, eqb, List, [], ◌∷◌, ◌++◌, map, reverse, Some, None, Option, sym, refl, ap, ◌∙◌, subst, append_assoc, arith}
+use Rattle.std.proofs.Common.{◌≡◌, ℕ, ◌<◌, List, [], ◌∷◌, ◌++◌, map, reverse, Some, None, Option, sym, ap, ◌∙◌, subst, append_assoc, arith}
 use Rattle.std.proofs.lemmas.List.{map-append}
-use Rattle.std.proofs.lemmas.Bool.{eqb-true, eq-eqb}
+use Rattle.std.proofs.lemmas.Bool.{eq-eqb}
 use Rattle.std.proofs.lemmas.Bool.Decides.{nat_tests}
 use Rattle.model.specs.declared.items.Link.{Link}
 use Rattle.model.specs.declared.items.Step.{Step}
 use Rattle.model.specs.Records.{Given, turned}
-use Rattle.model.specs.Walks.{Links, met, Distinct, root_walk, last}
-use Rattle.model.specs.Paths.{Path, up, join, some_if, path}
+use Rattle.model.specs.Walks.{Links, Distinct, root_walk, last}
+use Rattle.model.specs.Paths.{Path, up, join, path}
 use Rattle.model.specs.PathLaws.{arrival, Joins, meets, Climbs}
 use Rattle.model.proofs.Members.{Apart, met_append, met_reverse, distinct_append, distinct_parts, distinct_reverse}
 use Rattle.model.proofs.Links.{Linked}

@@ -1,12 +1,11 @@
 -- Memories in order: what stands is on file, entries cite earlier ones, marks read as no steps. Assumes nothing.
-use Rattle.std.proofs.Common.{◌≡◌, ℕ, ◌<◌, ◌≤◌, Bool, true, false, eqb, List, [], ◌∷◌, length, Some, None, sym, refl, ap, ◌∙◌, inl, inr, append-nil, arith}
-use Rattle.std.proofs.lemmas.Bool.{cases_Bool, cases_lt}
+use Rattle.std.proofs.Common.{◌≡◌, ℕ, ◌<◌, ◌≤◌, Bool, true, false, eqb, List, [], ◌∷◌, length, Some, None, sym, refl, ap, ◌∙◌, append-nil, arith}
 use Rattle.std.proofs.lemmas.Bool.Decides.{nat_tests}
 use Rattle.std.specs.List.{AllByRecursion as All}
 use Rattle.model.specs.declared.items.Pair.{Pair}
 use Rattle.model.specs.declared.items.Step.{Step}
 use Rattle.model.specs.Records.{turned}
-use Rattle.model.specs.Memory.{Segment, step, entry, mark, Entry, Use, Standing, Memory, nothing_filed, stands, without, entry_at, is_mark, turned_entry}
+use Rattle.model.specs.Memory.{Segment, entry, Entry, Use, Standing, Memory, nothing_filed, stands, without, entry_at, is_mark, turned_entry}
 use Rattle.model.specs.Reading.{reads, segments_steps}
 use Rattle.model.proofs.Steps.{turned_turned}
 use Rattle.model.proofs.Growth.{MoreUses, longer_one, longer_reads}

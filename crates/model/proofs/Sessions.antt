@@ -1,15 +1,15 @@
 -- Sessions in order: the givens' ends are on the books and what is remembered is sound. Every call leaves them so. Assumes nothing.
-use Rattle.std.proofs.Common.{◌≡◌, ℕ, ◌<◌, ◌≤◌, Bool, true, false, ltb, List, [], ◌∷◌, ◌++◌, length, None, Ok, Err, Result, sym, refl, subst, inl, inr, append-nil, arith}
+use Rattle.std.proofs.Common.{◌≡◌, ℕ, ◌<◌, ◌≤◌, Bool, List, [], ◌∷◌, ◌++◌, length, None, Ok, Err, Result, refl, inl, inr, append-nil, arith}
 use Rattle.std.proofs.lemmas.List.{length-append, get_or_append_left, get_or_push}
-use Rattle.std.proofs.lemmas.Bool.{cases_lt, ltb-true}
+use Rattle.std.proofs.lemmas.Bool.{cases_lt}
 use Rattle.model.specs.declared.items.Pair.{Pair}
-use Rattle.model.specs.Records.{Enode, Kind, Given, no_given, args_of}
+use Rattle.model.specs.Records.{Enode, Kind, Given, no_given}
 use Rattle.std.proofs.lemmas.Bool.Decides.{nat_tests}
 use Rattle.model.specs.Refusals.{Refusal, short, asked}
 use Rattle.model.specs.Frames as frames
 use Rattle.model.specs.Frames.{Frames, current, log_frame}
-use Rattle.model.specs.Checks.{Check, and_then, unless_refused, all_known}
-use Rattle.model.specs.Logging.{Room, Case, Outcome, pair_ends, given_checks, in_frame, new_enode, enode_added, new_given, on_frames}
+use Rattle.model.specs.Checks.{Check, unless_refused}
+use Rattle.model.specs.Logging.{Room, Case, Outcome, given_checks, in_frame, new_enode, enode_added, new_given, on_frames}
 use Rattle.model.specs.PathLaws.{EndsKnown}
 use Rattle.model.specs.Memory.{Memory, Entry}
 use Rattle.model.specs.Acts.{Question, Done, done, stop}
