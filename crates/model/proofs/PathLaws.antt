@@ -7,7 +7,7 @@ use Rattle.model.specs.declared.items.Step.{Step}
 use Rattle.model.specs.Records.{Given, turned}
 use Rattle.model.specs.Walks.{Links, links, met, Distinct, root_walk, last, check_eq, shares, NoCircle}
 use Rattle.model.specs.Paths.{Path, up, join, path}
-use Rattle.model.specs.PathLaws.{Joins, meets, Strikes, Bare, Ancestor, Nearest, OverNearest, WalksLawful}
+use Rattle.model.specs.PathLaws.{Strikes, Bare, Ancestor, Nearest, OverNearest, WalksLawful}
 use Rattle.model.proofs.Members.{met_append, shares_from, shared_by}
 use Rattle.model.proofs.Links.{Linked, linked, link_within}
 use Rattle.model.proofs.Walks.{Within, follows_from, walk_follows, walk_distinct, walk_short, walk_has_first, walk_has_last, root_last}
@@ -16,7 +16,7 @@ use Rattle.model.proofs.Endings.{Terminal, walk_terminal, walk_told}
 use Rattle.model.proofs.Ancestors.{ancestor_trans, closed_ancestor, follows_ancestor, last_ancestor}
 use Rattle.model.proofs.Strikes.{Reduced, reduce, reduce_reduced, reduce_append, reduce_forth, reduced_same, bare_from_reduced, struck_out, joins_reduced}
 use Rattle.model.proofs.Confluence.{join_over}
-use Rattle.model.proofs.Paths.{Meeting, join_turned, rising_follows, falling_follows, rises, falls, join_distinct, join_reduces, join_joins, join_meets, first_walk, second_walk, path_found, path_made, walks_meet}
+use Rattle.model.proofs.Paths.{Meeting, join_turned, rising_follows, falling_follows, rises, falls, join_distinct, join_reduces, join_joins, join_meets, first_walk, second_walk, path_found, path_made, walks_meet, path_joins}
 
 module _ (next : Links) (size : ℕ) (within : Within next size) where
   abbrev W : ℕ → List ℕ
@@ -113,15 +113,6 @@ module _ (next : Links) (size : ℕ) (within : Within next size) where
       (join next (W b) (W a), plain_made b a (subst (Terminal next) pl.ends end) (sym pl.ends), join_turned next m.together ∙ ap (λ (q : Path). turned q.steps) (sym pl.is))
 
   module _ (gs : List Given) (ok : (e : ℕ) (l : Link) → next e ≡ Some l → Linked gs e l) where
-    path_joins : (a b : ℕ) → a < size → b < size → (p : Path) → path next size a b ≡ Some p → Joins gs p.steps a b × (meets gs a p.steps ≡ p.enodes) × Distinct p.enodes
-    path_joins a b la lb p h =
-        let found = path_found next size a b p h in
-        let root = last a (W a) in
-        let t = second_walk next size a b in
-        let m = walks_meet next size None (Some root) a b la lb found.ends in
-        subst (λ (q : Path). Joins gs q.steps a b × (meets gs a q.steps ≡ q.enodes) × Distinct q.enodes) (sym found.is)
-        (join_joins m gs ok, join_meets m gs ok, join_distinct m)
-
     -- the walks' words cancel in the middle
     joins_cancel : (a b c : ℕ) → Meeting next a b (W a) (W b) → Meeting next b c (W b) (W c) → Meeting next a c (W a) (W c) →
         reduce ((join next (W a) (W b)).steps ++ (join next (W b) (W c)).steps) [] ≡ reduce (join next (W a) (W c)).steps []
@@ -162,7 +153,7 @@ walks_lawful counts gs size known =
     record {
       ends = λ root e. (walk_distinct next root size [] e, walk_short next root size [] e);
       exists = path_exists next size within;
-      joins = path_joins next size within gs ok;
+      joins = path_joins next size gs ok;
       over_nearest = path_over_nearest next size within;
       turns = path_turns next size within;
       compose = paths_compose next size within gs ok;

@@ -1,15 +1,15 @@
 -- The places of a path, each with an enode of its own. Assumes nothing.
-use Rattle.std.proofs.Common.{◌≡◌, ℕ, zero, suc, ◌<◌, Bool, List, [], ◌∷◌, length, get_or, drop, Some, None, sym, ap, ◌∙◌, subst, arith}
+use Rattle.std.proofs.Common.{◌≡◌, ℕ, zero, suc, ◌<◌, Bool, List, [], ◌∷◌, length, get_or, drop, Some, sym, ap, ◌∙◌, arith}
 use Rattle.std.proofs.lemmas.List.{length-map}
 use Rattle.model.specs.declared.items.Pair.{Pair}
 use Rattle.model.specs.declared.items.Step.{Step}
 use Rattle.model.specs.Records.{Given}
-use Rattle.model.specs.Walks.{Distinct, links, last}
+use Rattle.model.specs.Walks.{Distinct, links}
 use Rattle.model.specs.Paths.{Path, path}
 use Rattle.model.specs.PathLaws.{arrival, Joins, meets}
 use Rattle.model.proofs.Links.{linked}
 use Rattle.model.proofs.Steps.{meets_arrivals}
-use Rattle.model.proofs.Paths.{first_walk, second_walk, path_found, walks_meet, join_distinct, join_joins, join_meets}
+use Rattle.model.proofs.Paths.{path_joins}
 
 -- the element at a place, and those after it
 pub drop_here : {X : Type 0} (j : ℕ) (ys : List X) (x d : X) (xs : List X) → drop j ys ≡ x ∷ xs → (j < length ys) × (get_or ys j d ≡ x) × (drop (suc j) ys ≡ xs)
@@ -44,19 +44,11 @@ joins_some gs (s ∷ ss) x y h ne = omega arith
 -- the path of a pair on the books whose enodes differ
 pub path_laid : (counts : ℕ → Bool) (gs : List Given) (size : ℕ) (p : Pair) (way : Path) → p.from < size → p.to < size → (p.from ≡ p.to → ⊥) → path (links counts gs) size p.from p.to ≡ Some way → Laid p way
 path_laid counts gs size p way la lb ne h =
-    let next = links counts gs in
-    let a = p.from in
-    let b = p.to in
-    let f = first_walk next size a in
-    let t = second_walk next size a b in
-    let found = path_found next size a b way h in
-    let m = walks_meet next size None (Some (last a f)) a b la lb found.ends in
-    let joins : Joins gs way.steps a b = subst (λ (w : Path). Joins gs w.steps a b) (sym found.is) (join_joins m gs (linked counts gs)) in
-    let meets_all : meets gs a way.steps ≡ way.enodes = subst (λ (w : Path). meets gs a w.steps ≡ w.enodes) (sym found.is) (join_meets m gs (linked counts gs)) in
+    let of_path = path_joins (links counts gs) size gs (linked counts gs) p.from p.to la lb way h in
     record {
-      once = subst (λ (w : Path). Distinct w.enodes) (sym found.is) (join_distinct m);
-      count = ap length (sym meets_all) ∙ meets_count gs a way.steps;
-      first = ap (λ es. get_or es 0 0) (sym meets_all) ∙ meets_first gs a way.steps;
-      last = ap (λ es. get_or es (length way.steps) 0) (sym meets_all) ∙ meets_last gs way.steps a b joins;
-      some = joins_some gs way.steps a b joins ne;
+      once = of_path.2;
+      count = ap length (sym of_path.1) ∙ meets_count gs p.from way.steps;
+      first = ap (λ es. get_or es 0 0) (sym of_path.1) ∙ meets_first gs p.from way.steps;
+      last = ap (λ es. get_or es (length way.steps) 0) (sym of_path.1) ∙ meets_last gs way.steps p.from p.to of_path.0;
+      some = joins_some gs way.steps p.from p.to of_path.0 ne;
     }

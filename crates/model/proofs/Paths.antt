@@ -141,3 +141,12 @@ walks_meet next size root root' a b la lb ends =
           subst (λ w. Confluent w t) (sym first.1)
           (confluent next b t from_b once_b a a first.0 (subst (Follows next a) first.1 from_a) (subst Distinct first.1 once_a) alike (rw alike (walk_has_last next root' size b lb)));
     }
+
+-- the path of a pair joins it
+pub path_joins : (next : Links) (size : ℕ) (gs : List Given) → ((e : ℕ) (l : Link) → next e ≡ Some l → Linked gs e l) → (a b : ℕ) → a < size → b < size → (p : Path) → path next size a b ≡ Some p →
+    Joins gs p.steps a b × (meets gs a p.steps ≡ p.enodes) × Distinct p.enodes
+path_joins next size gs ok a b la lb p h =
+    let found = path_found next size a b p h in
+    let m = walks_meet next size None (Some (last a (first_walk next size a))) a b la lb found.ends in
+    subst (λ (q : Path). Joins gs q.steps a b × (meets gs a q.steps ≡ q.enodes) × Distinct q.enodes) (sym found.is)
+    (join_joins m gs ok, join_meets m gs ok, join_distinct m)
