@@ -11,8 +11,10 @@ pub mod Strikes
 pub mod Confluence
 pub mod Paths
 pub mod PathLaws
+pub mod PathPlaces
 pub mod Growth
 pub mod ChainSteps
+pub mod Fewest
 pub mod Citations
 pub mod Remembering
 pub mod Passing
@@ -21,7 +23,5 @@ pub mod Asking
 pub mod Sessions
 pub mod QuietRuns
 pub mod RunLaws
-pub mod WorkedCases
-pub mod Fewest
-pub mod PathPlaces
 pub mod ShortestFiled
+pub mod WorkedCases

@@ -10,7 +10,7 @@ use Rattle.model.specs.Paths.{Path, path, join, some_if}
 use Rattle.model.specs.PathLaws.{Joins, meets, WalkLaws}
 use Rattle.model.specs.Memory.{Entry}
 use Rattle.model.specs.Format as F
-use Rattle.model.specs.Runs.{Session, links_of, turn, Move, play, reached}
+use Rattle.model.specs.Runs.{Session, links_of, Move, play, reached}
 use Rattle.model.specs.RunLaws.{size_of, ReadsAs, Answered, here, later, Quiet}
 use Rattle.model.proofs.Members.{shares_from, distinct_at}
 use Rattle.model.proofs.Links.{link_within}
@@ -20,7 +20,7 @@ use Rattle.model.proofs.Paths.{first_walk}
 use Rattle.model.proofs.PathPlaces.{meets_count, meets_first, meets_last}
 use Rattle.model.proofs.PathLaws.{walks_lawful}
 use Rattle.model.proofs.Passing.{explains, marks}
-use Rattle.model.proofs.Sessions.{InOrder, AnswerSays, Asked, ask_asked, play_goes_on}
+use Rattle.model.proofs.Sessions.{InOrder, AnswerSays, Asked, call_asked, play_goes_on}
 
 -- more enodes change no path
 path_more : (next : Links) (m n : ℕ) → Within next m → m ≤ n → (a b : ℕ) → a < m → b < m → path next n a b ≡ path next m a b
@@ -80,7 +80,7 @@ module _ (limit : ℕ) where
       p = record { from = a; to = b }
 
       said : Asked s p (play limit s m)
-      said = subst (λ c. Asked s p (turn limit m.leaves c s)) (sym call) (ask_asked s h limit m.leaves may a b)
+      said = call_asked limit s m may a b h call
 
       entries : List Entry
       entries = (play limit s m).after.memory.entries

@@ -11,12 +11,12 @@ use Rattle.model.specs.Format as F
 use Rattle.model.specs.Acts.{Question}
 use Rattle.model.specs.Logging.{Room}
 use Rattle.model.specs.Questions.{Places}
-use Rattle.model.specs.Runs.{Scratch, Session, links_of, Answer, number, same_enode, by_entry, refused, Turn, turn, Move, play, reached}
+use Rattle.model.specs.Runs.{Scratch, Session, links_of, Answer, number, same_enode, by_entry, refused, Turn, Move, play, reached}
 use Rattle.model.specs.RunLaws.{size_of, Explains, Files, Unjoined, ElseAccepted, start, FiledForGood, CitationsEarlier, ExplanationsRead, FiledByQuestions, AnswersTurn, AnswersCompose, UnjoinedExactly}
 use Rattle.model.proofs.Growth.{Longer, longer_self, longer_trans, MoreUses, more_self, more_trans}
 use Rattle.model.proofs.Citations.{cite_earlier}
 use Rattle.model.proofs.Passing.{each_map, explains, marks, FiledFor, FilesFor}
-use Rattle.model.proofs.Sessions.{InOrder, GoesOn, AnswerSays, Asked, ask_asked, play_goes_on, reached_in_order, start_in_order}
+use Rattle.model.proofs.Sessions.{InOrder, GoesOn, AnswerSays, call_asked, play_goes_on, reached_in_order, start_in_order}
 use Rattle.model.proofs.QuietRuns.{laws_of, check_itself, answered_path}
 
 -- more entries and more use lists
@@ -76,7 +76,7 @@ module _ (limit : ℕ) (room : Room) (places : Places) (scratch : Scratch) where
     p = record { from = a; to = b }
 
     said : AnswerSays s p t.after.memory.entries t.answer
-    said = (subst (λ c. Asked s p (turn limit m.leaves c s)) (sym call) (ask_asked s (in_order ms) limit m.leaves may a b)).says
+    said = (call_asked limit s m may a b (in_order ms) call).says
 
     answer_is : (x : Answer) → t.answer ≡ x → AnswerSays s p t.after.memory.entries x
     answer_is x e = subst (AnswerSays s p t.after.memory.entries) e said

@@ -1,5 +1,5 @@
 -- Sessions in order: the givens' ends are on the books and what is remembered is sound. Every call leaves them so. Assumes nothing.
-use Rattle.std.proofs.Common.{◌≡◌, ℕ, ◌<◌, ◌≤◌, Bool, List, [], ◌∷◌, ◌++◌, length, None, Ok, Err, Result, refl, inl, inr, append-nil, arith}
+use Rattle.std.proofs.Common.{◌≡◌, ℕ, ◌<◌, ◌≤◌, Bool, List, [], ◌∷◌, ◌++◌, length, None, Ok, Err, Result, sym, refl, subst, inl, inr, append-nil, arith}
 use Rattle.std.proofs.lemmas.List.{length-append, get_or_append_left, get_or_push}
 use Rattle.std.proofs.lemmas.Bool.{cases_lt}
 use Rattle.model.specs.declared.items.Pair.{Pair}
@@ -120,7 +120,7 @@ module _ (s : Session) (h : InOrder s) where
   unless_short_asked p (Err r) short t a = record { goes_on = went _ s.memory [] (passes_self h.sound); says = λ five _. absurd (omega (arith, short, five)) }
 
   module _ (limit : ℕ) (leaves : ℕ → Bool) where
-    pub ask_asked : (may a b : ℕ) → Asked s (record { from = a; to = b }) (turn limit leaves (F.ask may a b) s)
+    ask_asked : (may a b : ℕ) → Asked s (record { from = a; to = b }) (turn limit leaves (F.ask may a b) s)
     unfolding turn ask
     ask_asked may a b =
         let p : Pair = record { from = a; to = b } in
@@ -138,6 +138,9 @@ module _ (s : Session) (h : InOrder s) where
 module _ (limit : ℕ) where
   pub play_goes_on : (s : Session) (m : Move) → InOrder s → GoesOn s (play limit s m)
   play_goes_on s m h = turn_goes_on s h limit m.leaves m.call
+
+  pub call_asked : (s : Session) (m : Move) (may a b : ℕ) → InOrder s → m.call ≡ F.ask may a b → Asked s (record { from = a; to = b }) (play limit s m)
+  call_asked s m may a b h call = subst (λ c. Asked s (record { from = a; to = b }) (turn limit m.leaves c s)) (sym call) (ask_asked s h limit m.leaves may a b)
 
   pub reached_in_order : (s : Session) (ms : List Move) → InOrder s → InOrder (reached limit s ms)
   reached_in_order s [] h = h

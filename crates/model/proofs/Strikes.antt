@@ -8,7 +8,7 @@ use Rattle.model.specs.Walks.{met, Distinct}
 use Rattle.model.specs.Reading.{same_step}
 use Rattle.model.specs.PathLaws.{arrival, Joins, meets, Strikes, none, one, Bare}
 use Rattle.model.proofs.Members.{met_head}
-use Rattle.model.proofs.Steps.{step, turn_turn, turned_cons, turned_turned, arrival_turn}
+use Rattle.model.proofs.Steps.{step, turn_turn, turned_cons, turned_turned, arrival_turn, meets_arrivals}
 
 pub same_step_eq : (s t : Step) → same_step s t ≡ true → s ≡ t
 same_step_eq s t h =
@@ -112,13 +112,12 @@ bare_from_reduced xs c ys k = reduced_struck k.front k.back k.there (rw k.is at 
 pub struck_out : (xs zs : List Step) → Strikes xs zs → Bare zs → zs ≡ reduce xs []
 struck_out xs zs h b = sym (reduced_same zs (reduced_from_bare zs b)) ∙ sym (reduce_strikes xs zs h)
 
-meets_first : (gs : List Given) (x : ℕ) (ss : List Step) → met x (meets gs x ss) ≡ true
-meets_first gs x [] = met_head x []
-meets_first gs x (s ∷ ss) = met_head x (meets gs (arrival gs s) ss)
+first_met : (gs : List Given) (x : ℕ) (ss : List Step) → met x (meets gs x ss) ≡ true
+first_met gs x ss = rw (meets_arrivals gs x ss) (met_head x _)
 
 -- steps that meet no enode twice have nothing to strike out
 pub joins_reduced : (gs : List Given) (ss : List Step) (x y : ℕ) → Joins gs ss x y → Distinct (meets gs x ss) → Reduced ss
 joins_reduced gs [] x y j d = tt
 joins_reduced gs (s ∷ []) x y j d = tt
 joins_reduced gs (s ∷ t ∷ ts) x y j d =
-    (grind (arith, nat_tests, same_step_eq t (turn_step s), arrival_turn gs s, meets_first gs (arrival gs t) ts, d.0), joins_reduced gs (t ∷ ts) (arrival gs s) y j.2 d.1)
+    (grind (arith, nat_tests, same_step_eq t (turn_step s), arrival_turn gs s, first_met gs (arrival gs t) ts, d.0), joins_reduced gs (t ∷ ts) (arrival gs s) y j.2 d.1)
