@@ -22,17 +22,29 @@ const CLOSE: u32 = 0x4000_0000;
 
 const ASK: u32 = 0x5000_0000;
 
-// What a log with no bytes left over prints.
+// A log with no bytes left over.
+fn whole(words: &[u32]) -> Log<'_> {
+    Log {
+        words,
+        ragged: false,
+    }
+}
+
+// A log with bytes left over.
+fn ragged(words: &[u32]) -> Log<'_> {
+    Log {
+        words,
+        ragged: true,
+    }
+}
+
+// What a log prints.
 fn lists<R: FrameRule + Drop>(
     rt: &(impl Abort + AllocGlobal),
     rule: R,
-    words: &[u32],
+    log: Log<'_>,
     expected: &str,
 ) -> Result<(), Fail> {
-    let log = Log {
-        words,
-        ragged: false,
-    };
     let text = run(rule, log, rt.alloc())?;
     assert_eq!(rt; text.as_str(), expected);
     Ok(())
@@ -48,7 +60,7 @@ fn closed_frame_counts(rt: HostRuntime) -> Result<(), Fail> {
     lists(
         &rt,
         Every::new(),
-        &REPLACED,
+        whole(&REPLACED),
         "ask 0 2\nwalk 0 2\nwalk 2 tells 2\npath +g1\nask 0 1\nwalk 0 2\nwalk 1\nno path\nask 0 2\nwalk 0 2\nwalk 2 tells 2\npath +g1\nenodes 3 givens 2 frames 1\n",
     )
 }
@@ -58,7 +70,7 @@ fn closed_frame_leaves(rt: HostRuntime) -> Result<(), Fail> {
     lists(
         &rt,
         Live::new(),
-        &REPLACED,
+        whole(&REPLACED),
         "ask 0 2\nwalk 0 2\nwalk 2 tells 2\npath +g1\nask 0 1\nwalk 0 1\nwalk 1 tells 1\npath +g0\nask 0 2\nwalk 0 1\nwalk 2\nno path\nenodes 3 givens 2 frames 1\n",
     )
 }
@@ -68,23 +80,23 @@ fn circles_and_roots(rt: HostRuntime) -> Result<(), Fail> {
     lists(
         &rt,
         Every::new(),
-        &[ENODE, ENODE, AXIOM, 0, 1, AXIOM, 1, 0, ASK, 0, 1, ASK, 1, 0],
+        whole(&[ENODE, ENODE, AXIOM, 0, 1, AXIOM, 1, 0, ASK, 0, 1, ASK, 1, 0]),
         "ask 0 1\nwalk 0 1 tells 0\nwalk 1 tells 1\npath +g0\nask 1 0\nwalk 1 0 tells 1\nwalk 0 tells 0\npath +g1\nenodes 2 givens 2 frames 1\n",
     )?;
     lists(
         &rt,
         Every::new(),
-        &[
+        whole(&[
             ENODE, ENODE, AXIOM, 0, 0, ROOT, 1, ASK, 0, 1, AXIOM, 0, 1, ASK, 1, 0,
-        ],
+        ]),
         "ask 0 1\nwalk 0 tells 0\nwalk 1 tells 1\nno path\nask 1 0\nwalk 1 tells 1\nwalk 0 1 tells 1\npath -g2\nenodes 2 givens 3 frames 1\n",
     )?;
     lists(
         &rt,
         Every::new(),
-        &[
+        whole(&[
             ENODE, ENODE, ENODE, AXIOM, 0, 2, AXIOM, 1, 2, ASK, 0, 1, AXIOM, 1, 0, ASK, 2, 1,
-        ],
+        ]),
         "ask 0 1\nwalk 0 2\nwalk 1 2 tells 2\npath +g0 -g1\nask 2 1\nwalk 2\nwalk 1 0 2 tells 2\npath -g0 -g2\nenodes 3 givens 3 frames 1\n",
     )
 }
@@ -94,13 +106,13 @@ fn refused_and_on(rt: HostRuntime) -> Result<(), Fail> {
     lists(
         &rt,
         Every::new(),
-        &[ENODE, ASK, 0, 1, ASK, 1, 0, ASK, 1, 1, ASK, 0, 0],
+        whole(&[ENODE, ASK, 0, 1, ASK, 1, 0, ASK, 1, 1, ASK, 0, 0]),
         "ask 0 1\nrefused 1 at 1\nask 1 0\nrefused 1 at 4\nask 1 1\nrefused 1 at 7\nask 0 0\nsame 0\nenodes 1 givens 0 frames 1\n",
     )?;
     lists(
         &rt,
         Every::new(),
-        &[
+        whole(&[
             ENODE,
             AXIOM,
             0,
@@ -115,28 +127,21 @@ fn refused_and_on(rt: HostRuntime) -> Result<(), Fail> {
             OPEN,
             CLOSE,
             CLOSE,
-        ],
+        ]),
         "refused 1 at 1\nrefused 1 at 4\nrefused 8 at 13\nenodes 1 givens 1 frames 1\n",
     )?;
     lists(
         &rt,
         Every::new(),
-        &[ENODE, ASK, 0, 0, 7, ENODE],
+        whole(&[ENODE, ASK, 0, 0, 7, ENODE]),
         "ask 0 0\nsame 0\nrefused 10 at 4\nenodes 1 givens 0 frames 1\n",
     )?;
-    let ragged = run(
+    lists(
+        &rt,
         Every::new(),
-        Log {
-            words: &[ENODE],
-            ragged: true,
-        },
-        rt.alloc(),
-    )?;
-    assert_eq!(rt;
-        ragged.as_str(),
-        "refused 10 at 1\nenodes 1 givens 0 frames 1\n"
-    );
-    Ok(())
+        ragged(&[ENODE]),
+        "refused 10 at 1\nenodes 1 givens 0 frames 1\n",
+    )
 }
 
 #[test]
@@ -145,14 +150,14 @@ fn full_tables(rt: HostRuntime) -> Result<(), Fail> {
     lists(
         &rt,
         Every::new(),
-        &enodes,
+        whole(&enodes),
         "refused 4 at 128\nenodes 128 givens 0 frames 1\n",
     )?;
     let openings = vec![in rt.alloc(); OPEN; 64]?;
     lists(
         &rt,
         Every::new(),
-        &openings,
+        whole(&openings),
         "refused 7 at 63\nenodes 0 givens 0 frames 64\n",
     )?;
     let mut givens = vec![in rt.alloc(); ENODE]?;
@@ -162,7 +167,7 @@ fn full_tables(rt: HostRuntime) -> Result<(), Fail> {
     lists(
         &rt,
         Every::new(),
-        &givens,
+        whole(&givens),
         "refused 4 at 257\nenodes 1 givens 128 frames 1\n",
     )?;
     let mut arguments = vec![in rt.alloc(); ENODE, CONGRUENCE + 1024]?;
@@ -171,7 +176,7 @@ fn full_tables(rt: HostRuntime) -> Result<(), Fail> {
     lists(
         &rt,
         Every::new(),
-        &arguments,
+        whole(&arguments),
         "refused 4 at 1028\nenodes 1 givens 1 frames 1\n",
     )
 }
@@ -183,15 +188,17 @@ fn long_logs(rt: HostRuntime) -> Result<(), Fail> {
     for _ in 0..8192 {
         words.extend_from_slice(&[OPEN, CLOSE])?;
     }
-    let text = run(
+    lists(
+        &rt,
         Every::new(),
-        Log {
-            words: &words,
-            ragged: true,
-        },
-        rt.alloc(),
+        ragged(&words),
+        "enodes 0 givens 0 frames 1\n",
     )?;
-    assert_eq!(rt; text.as_str(), "enodes 0 givens 0 frames 1\n");
     words.push(0)?;
-    lists(&rt, Every::new(), &words, "enodes 0 givens 0 frames 1\n")
+    lists(
+        &rt,
+        Every::new(),
+        whole(&words),
+        "enodes 0 givens 0 frames 1\n",
+    )
 }

@@ -7,27 +7,21 @@ use model::error::{Cause, Fault};
 use model::items::{ArgPairs, EqualityExpl};
 use std::process::Abort;
 
-// The place at which a log is refused; None if it is read to its end.
-fn refused_at(words: &[u32], ragged: bool) -> Option<u32> {
+// Reads a log to its end, or to words that cannot be read. Each call takes a word, and behind the last one None comes again.
+fn read(words: &[u32], ragged: bool) -> Result<(), Fault> {
     let mut reader = Reader::new(Log { words, ragged });
     for _ in 0..=words.len() {
-        match reader.next_call() {
-            Ok(Some(_)) => {}
-            Ok(None) => return None,
-            Err(
-                Fault {
-                    cause: Cause::Unreadable(place),
-                    ..
-                },
-            ) => return Some(place),
-            Err(_) => return None,
-        }
+        reader.next_call()?;
     }
-    None
+    Ok(())
+}
+
+fn unreadable(place: u32) -> Result<(), Fault> {
+    Err(Fault::new(Cause::Unreadable(place)))
 }
 
 fn bad(rt: &impl Abort, words: &[u32], place: u32) {
-    assert_eq!(rt; refused_at(words, false), Some(place));
+    assert_eq!(rt; read(words, false), unreadable(place));
 }
 
 #[test]
@@ -82,9 +76,9 @@ fn bad_words(rt: HostRuntime) {
     bad(&rt, &[0x2200_0004, 0, 0, 0, 0xffff_ffff], 0);
     bad(&rt, &[0x5000_0003, 0x1000_0000, 0], 0);
     bad(&rt, &[0x3000_0000, 0x5000_0003, 0, 0x3000_0000], 1);
-    assert_eq!(rt; refused_at(&[], true), Some(0));
-    assert_eq!(rt; refused_at(&[0x3000_0000, 0x4000_0000], true), Some(2));
-    assert_eq!(rt; refused_at(&[0x3000_0000, 0x4000_0000], false), None);
+    assert_eq!(rt; read(&[], true), unreadable(0));
+    assert_eq!(rt; read(&[0x3000_0000, 0x4000_0000], true), unreadable(2));
+    assert_eq!(rt; read(&[0x3000_0000, 0x4000_0000], false), Ok(()));
 }
 
 // Writes each call of a log at its own place, and answers where that ended.
@@ -110,7 +104,7 @@ fn good(rt: &impl Abort, words: &[u32]) {
     let mut out = [0xffff_ffff; 16];
     assert!(rt; words.len() <= 16);
     assert_eq!(rt; rewrite(words, &mut out) as usize, words.len());
-    assert!(rt; &out[0..words.len()] == words);
+    assert_eq!(rt; &out[..words.len()], words);
 }
 
 #[test]
@@ -141,7 +135,7 @@ fn small_log(rt: HostRuntime) {
         0,
         1,
     ];
-    assert!(rt; words == expected);
+    assert_eq!(rt; words, expected);
     good(&rt, &expected);
 }
 
@@ -167,6 +161,6 @@ fn call_fields(rt: HostRuntime) {
         to: 4,
     };
     for call in [enode, Call::Given { expl: congruence }, question] {
-        assert_eq!(rt; reader.next_call().ok(), Some(Some(call)));
+        assert_eq!(rt; reader.next_call(), Ok(Some(call)));
     }
 }

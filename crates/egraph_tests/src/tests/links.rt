@@ -4,6 +4,7 @@ use egraph::egraph::EGraph;
 use frames::every::Every;
 use frames::live::Live;
 use frames::rule::FrameRule;
+use model::error::{Cause, Fault};
 use std::process::Abort;
 use std::test::Fail;
 
@@ -11,41 +12,29 @@ use std::test::Fail;
 fn second_after_closing<R: FrameRule>(
     rt: &impl Abort,
     graph: &mut EGraph<'_, R>,
-) -> Result<u32, Fail> {
+) -> Result<u32, Fault> {
     log_enodes(graph, 3)?;
     log_pairs(graph, &[(0, 1)])?;
-    answers(rt, graph.new_frame(), 1)?;
+    assert_eq!(rt; graph.new_frame(), Ok(1));
     log_pairs(graph, &[(0, 2)])?;
-    let mut marks = [3; 3];
-    let mut path = [9; 3];
-    walked(
-        rt,
-        graph.path_to_root(0, None, &mut marks, &mut path),
-        None,
-        2,
-    )?;
-    assert_eq!(rt; path, [0, 2, 9]);
-    answers(rt, graph.pop_frame(), 1)?;
-    walked(
-        rt,
-        graph.path_to_root(0, None, &mut marks, &mut path),
-        None,
-        2,
-    )?;
+    let mut scratch = Scratch::<3, 3, 0>::filled(3, 9);
+    assert_eq!(rt; scratch.walk(graph, 0, None), Ok(root_walk(None, 2)));
+    assert_eq!(rt; scratch.walks, [0, 2, 9]);
+    assert_eq!(rt; graph.pop_frame(), Ok(1));
+    assert_eq!(rt; scratch.walk(graph, 0, None), Ok(root_walk(None, 2)));
     // whichever frames count
-    answers(rt, graph.get_given(0, 2), Some(1))?;
-    Ok(path[1])
+    assert_eq!(rt; graph.get_given(0, 2), Ok(Some(1)));
+    Ok(scratch.walks[1])
 }
 
 #[test]
-fn a_closed_frame_counts_under_every_alone(rt: HostRuntime) -> Result<(), Fail> {
+fn a_closed_frame_counts_under_every_alone(rt: HostRuntime) {
     let mut tables = Tables::<3, 2, 0>::old();
     let mut live = tables.case(Live::new());
-    assert_eq!(rt; second_after_closing(&rt, &mut live)?, 1);
+    assert_eq!(rt; second_after_closing(&rt, &mut live), Ok(1));
     let mut tables = Tables::<3, 2, 0>::old();
     let mut every = tables.case(Every::new());
-    assert_eq!(rt; second_after_closing(&rt, &mut every)?, 2);
-    Ok(())
+    assert_eq!(rt; second_after_closing(&rt, &mut every), Ok(2));
 }
 
 #[test]
@@ -54,12 +43,13 @@ fn the_oldest_given_is_answered(rt: HostRuntime) -> Result<(), Fail> {
     let mut graph = tables.case(Live::new());
     log_enodes(&mut graph, 3)?;
     log_pairs(&mut graph, &[(1, 0), (0, 1), (0, 2), (0, 1)])?;
-    answers(&rt, graph.get_given(0, 1), Some(1))?;
-    answers(&rt, graph.get_given(0, 2), Some(2))?;
-    answers(&rt, graph.get_given(2, 0), None)?;
-    answers(&rt, graph.get_given(0, 0), None)?;
-    refuses(&rt, graph.get_given(5, 6), 1, 5)?;
-    refuses(&rt, graph.get_given(0, 6), 1, 6)
+    assert_eq!(rt; graph.get_given(0, 1), Ok(Some(1)));
+    assert_eq!(rt; graph.get_given(0, 2), Ok(Some(2)));
+    assert_eq!(rt; graph.get_given(2, 0), Ok(None));
+    assert_eq!(rt; graph.get_given(0, 0), Ok(None));
+    refuses(&rt, graph.get_given(5, 6), Cause::UnknownEnode(5));
+    refuses(&rt, graph.get_given(0, 6), Cause::UnknownEnode(6));
+    Ok(())
 }
 
 // The newest given is the link; a closing brings back the link that it replaced.
@@ -67,34 +57,18 @@ fn the_oldest_given_is_answered(rt: HostRuntime) -> Result<(), Fail> {
 fn a_link_is_replaced(rt: HostRuntime) -> Result<(), Fail> {
     let mut tables = Tables::<4, 4, 0>::old();
     let mut graph = tables.case(Live::new());
-    let mut marks = [0; 4];
-    let mut path = [9; 4];
+    let mut scratch = Scratch::<4, 4, 0>::filled(0, 9);
     log_enodes(&mut graph, 4)?;
     log_pairs(&mut graph, &[(0, 1), (0, 2)])?;
-    walked(
-        &rt,
-        graph.path_to_root(0, None, &mut marks, &mut path),
-        None,
-        2,
-    )?;
-    assert_eq!(rt; path, [0, 2, 9, 9]);
-    answers(&rt, graph.new_frame(), 1)?;
+    assert_eq!(rt; scratch.walk(&graph, 0, None), Ok(root_walk(None, 2)));
+    assert_eq!(rt; scratch.walks, [0, 2, 9, 9]);
+    assert_eq!(rt; graph.new_frame(), Ok(1));
     log_pairs(&mut graph, &[(0, 3), (0, 1)])?;
-    walked(
-        &rt,
-        graph.path_to_root(0, None, &mut marks, &mut path),
-        None,
-        2,
-    )?;
-    assert_eq!(rt; path, [0, 1, 9, 9]);
-    answers(&rt, graph.pop_frame(), 2)?;
-    walked(
-        &rt,
-        graph.path_to_root(0, None, &mut marks, &mut path),
-        None,
-        2,
-    )?;
-    assert_eq!(rt; path, [0, 2, 9, 9]);
+    assert_eq!(rt; scratch.walk(&graph, 0, None), Ok(root_walk(None, 2)));
+    assert_eq!(rt; scratch.walks, [0, 1, 9, 9]);
+    assert_eq!(rt; graph.pop_frame(), Ok(2));
+    assert_eq!(rt; scratch.walk(&graph, 0, None), Ok(root_walk(None, 2)));
+    assert_eq!(rt; scratch.walks, [0, 2, 9, 9]);
     Ok(())
 }
 
@@ -103,36 +77,15 @@ fn a_link_is_replaced(rt: HostRuntime) -> Result<(), Fail> {
 fn links_to_itself(rt: HostRuntime) -> Result<(), Fail> {
     let mut tables = Tables::<2, 3, 0>::old();
     let mut graph = tables.case(Live::new());
-    let mut marks = [0; 2];
-    let mut path = [9; 2];
+    let mut scratch = Scratch::<2, 2, 0>::filled(0, 9);
     log_enodes(&mut graph, 2)?;
-    walked(
-        &rt,
-        graph.path_to_root(0, None, &mut marks, &mut path),
-        None,
-        1,
-    )?;
-    answers(&rt, graph.new_given_equality(0, root(0)), 0)?;
-    walked(
-        &rt,
-        graph.path_to_root(0, None, &mut marks, &mut path),
-        Some(0),
-        1,
-    )?;
+    assert_eq!(rt; scratch.walk(&graph, 0, None), Ok(root_walk(None, 1)));
+    assert_eq!(rt; graph.new_given_equality(0, root(0)), Ok(0));
+    assert_eq!(rt; scratch.walk(&graph, 0, None), Ok(root_walk(Some(0), 1)));
     log_pairs(&mut graph, &[(1, 0)])?;
-    walked(
-        &rt,
-        graph.path_to_root(1, None, &mut marks, &mut path),
-        Some(0),
-        2,
-    )?;
-    answers(&rt, graph.new_given_equality(1, literal(1, 1)), 2)?;
-    walked(
-        &rt,
-        graph.path_to_root(1, None, &mut marks, &mut path),
-        Some(1),
-        1,
-    )?;
-    assert_eq!(rt; path, [1, 0]);
+    assert_eq!(rt; scratch.walk(&graph, 1, None), Ok(root_walk(Some(0), 2)));
+    assert_eq!(rt; graph.new_given_equality(1, literal(1, 1)), Ok(2));
+    assert_eq!(rt; scratch.walk(&graph, 1, None), Ok(root_walk(Some(1), 1)));
+    assert_eq!(rt; scratch.walks, [1, 0]);
     Ok(())
 }

@@ -4,10 +4,9 @@ use egraph::enode::ENode;
 use egraph::equality::{Given, Kind};
 use frames::rule::FrameRule;
 use model::error::{Cause, Fault};
-use model::items::{EqualityExpl, Pair, RootWalk, Step};
+use model::items::{ArgPairs, EqualityExpl, Pair, RootWalk, Step};
 use std::fmt::Debug;
 use std::process::Abort;
-use std::test::Fail;
 
 // Rows of an earlier use, which a caller may hand in.
 pub const OLD_ENODE: ENode = ENode {
@@ -53,6 +52,52 @@ impl<const ENODES: usize, const GIVENS: usize, const PAIRS: usize> Tables<ENODES
     }
 }
 
+// The scratch that a test's questions work on, and what they leave in it.
+#[derive(Drop)]
+pub struct Scratch<const MARKS: usize, const PLACES: usize, const STEPS: usize> {
+    pub marks: [u8; MARKS],
+    pub walks: [u32; PLACES],
+    pub steps: [Step; STEPS],
+}
+
+impl<const MARKS: usize, const PLACES: usize, const STEPS: usize> Scratch<MARKS, PLACES, STEPS> {
+    // Full of such leftovers.
+    pub fn filled(mark: u8, enode: u32) -> Self {
+        Scratch {
+            marks: [mark; MARKS],
+            walks: [enode; PLACES],
+            steps: [NO_STEP; STEPS],
+        }
+    }
+
+    pub fn walk<R: FrameRule>(
+        &mut self,
+        graph: &EGraph<'_, R>,
+        from: u32,
+        root: Option<u32>,
+    ) -> Result<RootWalk, Fault> {
+        graph.path_to_root(from, root, &mut self.marks, &mut self.walks)
+    }
+
+    pub fn check_eq<R: FrameRule>(
+        &mut self,
+        graph: &EGraph<'_, R>,
+        from: u32,
+        to: u32,
+    ) -> Result<bool, Fault> {
+        graph.check_eq(from, to, &mut self.marks, &mut self.walks)
+    }
+
+    pub fn path<R: FrameRule>(
+        &mut self,
+        graph: &EGraph<'_, R>,
+        from: u32,
+        to: u32,
+    ) -> Result<Option<usize>, Fault> {
+        graph.path(from, to, &mut self.marks, &mut self.walks, &mut self.steps)
+    }
+}
+
 pub fn axiom(from: u32, to: u32) -> EqualityExpl<'static> {
     EqualityExpl::Axiom { from, to }
 }
@@ -65,111 +110,55 @@ pub fn literal(from: u32, to: u32) -> EqualityExpl<'static> {
     EqualityExpl::Literal { from, eq: 4, to }
 }
 
-// A refusal's number, and its value.
-fn refusal(cause: Cause) -> (u32, usize) {
-    match cause {
-        Cause::UnknownEnode(enode) => (1, enode as usize),
-        Cause::NotFirstEnd(enode) => (3, enode as usize),
-        Cause::Full(table) => (4, table as usize),
-        Cause::FrameLimit(height) => (7, height as usize),
-        Cause::OnlyBase => (8, 0),
-        Cause::Short(needed) => (9, needed),
-        Cause::Unreadable(place) => (10, place as usize),
+pub fn congruence(from: u32, to: u32, words: &[u32]) -> EqualityExpl<'_> {
+    EqualityExpl::Congruence {
+        from,
+        arg_eqs: ArgPairs { words },
+        to,
     }
 }
 
-pub fn answers<T: PartialEq + Debug + Drop>(
+pub fn root_walk(tells: Option<u32>, len: usize) -> RootWalk {
+    RootWalk { tells, len }
+}
+
+pub fn up(given: u32) -> Step {
+    Step {
+        given,
+        forward: true,
+    }
+}
+
+pub fn down(given: u32) -> Step {
+    Step {
+        given,
+        forward: false,
+    }
+}
+
+// Why a call is refused, whichever pair the refusal names.
+pub fn refuses<T: PartialEq + Debug + Drop>(
     rt: &impl Abort,
     answer: Result<T, Fault>,
-    value: T,
-) -> Result<(), Fail> {
-    match answer {
-        Ok(told) => {
-            assert_eq!(rt; told, value);
-            Ok(())
-        },
-        Err(fault) => {
-            assert_eq!(rt; refusal(fault.cause), (0, 0), "refused");
-            Ok(())
-        },
-    }
+    cause: Cause,
+) {
+    assert_eq!(rt; answer.map_err(|fault| fault.cause), Err(cause));
 }
 
-pub fn refuses<T: Drop>(
-    rt: &impl Abort,
-    answer: Result<T, Fault>,
-    number: u32,
-    value: usize,
-) -> Result<(), Fail> {
-    match answer {
-        Ok(_) => Err(Fail::new("not refused")),
-        Err(fault) => {
-            assert_eq!(rt; refusal(fault.cause), (number, value));
-            Ok(())
-        },
-    }
-}
-
-// The pair that a refusal names, outside of nested questions.
-pub fn asks_for<T: Drop>(
-    rt: &impl Abort,
-    answer: Result<T, Fault>,
-    pair: Option<(u32, u32)>,
-) -> Result<(), Fail> {
-    match answer {
-        Ok(_) => Err(Fail::new("not refused")),
-        Err(fault) => {
-            let asked = match fault.pair {
-                Some(named) => Some((named.from, named.to)),
-                None => None,
-            };
-            assert_eq!(rt; asked, pair);
-            assert_eq!(rt; fault.level, 0);
-            assert!(rt; fault.argument.is_none());
-            Ok(())
-        }
-    }
-}
-
-// The enode that a walk tells, and how many it met.
-pub fn walked(
-    rt: &impl Abort,
-    answer: Result<RootWalk, Fault>,
-    tells: Option<u32>,
-    len: usize,
-) -> Result<(), Fail> {
-    match answer {
-        Ok(walk) => {
-            assert_eq!(rt; (walk.tells, walk.len), (tells, len));
-            Ok(())
-        },
-        Err(fault) => {
-            assert_eq!(rt; refusal(fault.cause), (0, 0), "refused");
-            Ok(())
-        },
-    }
-}
-
-pub fn step_is(rt: &impl Abort, step: Step, given: u32, forward: bool) -> Result<(), Fail> {
-    assert_eq!(rt; (step.given, step.forward), (given, forward));
-    Ok(())
-}
-
-pub fn log_enodes<R: FrameRule>(graph: &mut EGraph<'_, R>, count: u32) -> Result<(), Fail> {
+pub fn log_enodes<R: FrameRule>(graph: &mut EGraph<'_, R>, count: u32) -> Result<(), Fault> {
     for owner in 0..count {
-        if graph.new_enode(owner).is_err() {
-            return Err(Fail::new("no room for an enode"));
-        }
+        graph.new_enode(owner)?;
     }
     Ok(())
 }
 
 // Logs an axiom for each of these pairs, under its first end.
-pub fn log_pairs<R: FrameRule>(graph: &mut EGraph<'_, R>, ends: &[(u32, u32)]) -> Result<(), Fail> {
-    for (from, to) in ends {
-        if graph.new_given_equality(*from, axiom(*from, *to)).is_err() {
-            return Err(Fail::new("a given is refused"));
-        }
+pub fn log_pairs<R: FrameRule>(
+    graph: &mut EGraph<'_, R>,
+    ends: &[(u32, u32)],
+) -> Result<(), Fault> {
+    for &(from, to) in ends {
+        graph.new_given_equality(from, axiom(from, to))?;
     }
     Ok(())
 }
