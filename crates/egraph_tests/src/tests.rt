@@ -4,6 +4,7 @@ mod limits;
 mod links;
 mod logging;
 mod paths;
+mod refusals;
 mod scratch;
 mod support;
 mod walks;
