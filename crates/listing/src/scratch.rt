@@ -1,4 +1,4 @@
-// The tables that a question works on, and what an answer keeps in them.
+// The tables that a question works on, and what an answer keeps in them: the calls have no heap, so that their callers lend arrays.
 ghost use Rattle.std.specs.Prelude.{◌≤◌, IfSome};
 ghost use Rattle.std.proofs.Props.{props};
 
