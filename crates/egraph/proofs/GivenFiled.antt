@@ -1,5 +1,5 @@
 -- The tables after a given is filed hold the case with that given, and stay in order. Assumes nothing.
-use Rattle.std.proofs.Common.{◌≡◌, ℕ, suc, ◌+◌, ◌<◌, ◌≤◌, true, false, eqb, ◌⊎◌, List, [], ◌∷◌, ◌++◌, map, length, get_or, take, drop, set, Ok, Result, sym, refl, ap, ◌∙◌, inl, inr, add-one, arith, length-append, length-set}
+use Rattle.std.proofs.Common.{◌≡◌, Some, ℕ, suc, ◌+◌, ◌<◌, ◌≤◌, true, false, eqb, ◌⊎◌, List, [], ◌∷◌, ◌++◌, map, length, get_or, take, drop, set, Ok, Result, sym, refl, ap, ◌∙◌, inl, inr, add-one, arith, length-append, length-set}
 use lib.Seq.{drop-append_seam, take-length}
 use Rattle.std.proofs.lemmas.List.{get_or_append_left, get_or_push, length_push, length-map, map_push, map-set, get_or-map, set-get_or, get_or-set_same, get_or-set_other, take-append-le, drop-append-le, length-drop, set_past}
 use Rattle.std.proofs.lemmas.Bool.{cases_lt, cases_eq, ne_eqb, eq-eqb}
@@ -131,9 +131,9 @@ module _ (t u : Records) (e : EqualityExpl) (frame : ℕ) (f : GivenFiled t e fr
       let more = new ∷ [] in
       let old : (k : ℕ) (x : ℕ) → k ≤ length (listed t.givens) → newest (under x) (given_list t ++ more) k ≡ newest (under x) (given_list t) k =
       λ k x le. newest_append (under x) (given_list t) more k (omega (arith, rows_long)) in
-      rw (list_more, f.givens) (push_each (λ k g. past g.older ≡ past (newest (under g.from) (given_list t ++ more) k)) (listed t.givens) (row_of t e frame) no_row
-      (λ k lt. lists.0 k lt ∙ ap past (sym (old k (get_or (listed t.givens) k no_row).from (omega arith))))
-      (lists.1 (from_of e) from ∙ ap (λ n. past (newest (under (from_of e)) (given_list t) n)) (sym rows_long) ∙ ap past (sym (old (length (listed t.givens)) (from_of e) (omega arith)))))
+      rw (list_more, f.givens) (push_each (λ k g. g.older ≡ newest (under g.from) (given_list t ++ more) k) (listed t.givens) (row_of t e frame) no_row
+      (λ k lt. lists.0 k lt ∙ sym (old k (get_or (listed t.givens) k no_row).from (omega arith)))
+      (lists.1 (from_of e) from ∙ ap (λ n. newest (under (from_of e)) (given_list t) n) (sym rows_long) ∙ sym (old (length (listed t.givens)) (from_of e) (omega arith))))
 
   more_long : length (given_list t ++ (new ∷ [])) ≡ suc (length (given_list t))
   more_long = length_push (given_list t) new ∙ add-one (length (given_list t))
@@ -142,7 +142,7 @@ module _ (t u : Records) (e : EqualityExpl) (frame : ℕ) (f : GivenFiled t e fr
   headed_more from lists x lt = elim (cases_eq x (from_of e)) [
     | inl same ↦
         let test : eqb (from_of e) x ≡ true = eq-eqb (from_of e) x (sym same) in
-        rw (f.enodes, list_more, more_long, newest_push (under x) (given_list t) new, test, same, get_or-set_same (listed t.enodes) (from_of e) (with_newest (enode_under t e) (length (listed t.givens))) no_enode from) (ap suc rows_long)
+        rw (f.enodes, list_more, more_long, newest_push (under x) (given_list t) new, test, same, get_or-set_same (listed t.enodes) (from_of e) (with_newest (enode_under t e) (length (listed t.givens))) no_enode from) (ap Some rows_long)
     | inr other ↦
         let test : eqb (from_of e) x ≡ false = ne_eqb (from_of e) x (λ q. other (sym q)) in
         let low : x < size t = omega (arith, size_same) in

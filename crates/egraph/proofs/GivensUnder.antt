@@ -43,12 +43,6 @@ first_skip e rows (suc n) k le fail = elim (cases_eq k (suc n)) [
   | inr ne ↦ rw (fail n (omega arith) (omega arith)) (first_skip e rows n k (omega arith) (λ j low high. fail j low (omega arith)))
 ]
 
-past_same : (o p : Option ℕ) → past o ≡ past p → o ≡ p
-past_same None None h = refl
-past_same None (Some n) h = absurd (omega arith)
-past_same (Some m) None h = absurd (omega arith)
-past_same (Some m) (Some n) h = let same : m ≡ n = omega arith in ap Some same
-
 newest_past : (test : Given → Bool) (gs : List Given) (n : ℕ) → past (newest test gs n) ≤ n
 newest_past test gs zero = omega arith
 newest_past test gs (suc n) = let ih = newest_past test gs n in elim (cases_Bool (test (given_at gs n))) [ inl e ↦ rw e (omega arith) | inr e ↦ rw e (omega arith) ]
@@ -82,33 +76,33 @@ module _ (t : Records) where
 
   module _ (lists : InLists t) where
     pub older_named : OlderNamed rows
-    older_named k lt = omega (arith, lists.0 k lt, newest_past (under (row k).from) (given_list t) k)
+    older_named k lt = omega (arith, ap past (lists.0 k lt), newest_past (under (row k).from) (given_list t) k)
 
     pub newest_filed : (e : ℕ) → e < size t → past (get_or (listed t.enodes) e no_enode).newest ≤ length rows
-    newest_filed e lt = omega (arith, lists.1 e lt, newest_past (under e) (given_list t) (length (given_list t)), rows_long)
+    newest_filed e lt = omega (arith, ap past (lists.1 e lt), newest_past (under e) (given_list t) (length (given_list t)), rows_long)
 
     module _ (e : ℕ) where
       back_none : (bound : ℕ) → bound ≤ length rows → newest (under e) (given_list t) bound ≡ None → [] ≡ newest_first e rows bound
       back_none bound low none = sym (first_skip e rows bound 0 (omega arith) (λ j _ lt. sym (under_row e j (omega arith)) ∙ newest_none (under e) (given_list t) bound none j lt))
 
-      back_from : (most : ℕ) (next : Option ℕ) (bound : ℕ) → past next ≤ most → bound ≤ length rows → past next ≡ past (newest (under e) (given_list t) bound) → some_back most rows next ≡ newest_first e rows bound
-      back_from zero None bound few low is = back_none bound low (sym (past_same _ _ is))
+      back_from : (most : ℕ) (next : Option ℕ) (bound : ℕ) → past next ≤ most → bound ≤ length rows → next ≡ newest (under e) (given_list t) bound → some_back most rows next ≡ newest_first e rows bound
+      back_from zero None bound few low is = back_none bound low (sym is)
       back_from zero (Some n) bound few low is = absurd (omega arith)
-      back_from (suc most) None bound few low is = back_none bound low (sym (past_same _ _ is))
+      back_from (suc most) None bound few low is = back_none bound low (sym is)
       back_from (suc most) (Some n) bound few low is =
-          let found : Newest (under e) (given_list t) bound n = newest_found (under e) (given_list t) bound n (sym (past_same _ _ is)) in
+          let found : Newest (under e) (given_list t) bound n = newest_found (under e) (given_list t) bound n (sym is) in
           let filed : n < length rows = omega (arith, found.below) in
           let passes : eqb (row n).from e ≡ true = sym (under_row e n filed) ∙ found.passes in
           let begins : (row n).from ≡ e = eqb-true (row n).from e passes in
           let falls = older_named n filed in
           let rest : some_back most rows (row n).older ≡ newest_first e rows n =
-          back_from most (row n).older n (omega arith) (omega arith) (lists.0 n filed ∙ ap (λ x. past (newest (under x) (given_list t) n)) begins) in
+          back_from most (row n).older n (omega arith) (omega arith) (lists.0 n filed ∙ ap (λ x. newest (under x) (given_list t) n) begins) in
           let skipped : newest_first e rows bound ≡ newest_first e rows (suc n) =
           first_skip e rows bound (suc n) found.below (λ j high lt. sym (under_row e j (omega arith)) ∙ found.newer_fail j high lt) in
           rw (skipped, passes) (ap (λ xs. (n, row n) ∷ xs) rest)
 
       pub all_back : e < size t → givens_back rows (get_or (listed t.enodes) e no_enode).newest ≡ newest_first e rows (length rows)
-      all_back lt = back_from _ _ (length rows) (omega arith) (omega arith) (lists.1 e lt ∙ ap (λ n. past (newest (under e) (given_list t) n)) rows_long)
+      all_back lt = back_from _ _ (length rows) (omega arith) (omega arith) (lists.1 e lt ∙ ap (λ n. newest (under e) (given_list t) n) rows_long)
 
   -- the link is the first whose frame counts
   module _ (counts : ℕ → Bool) (e : ℕ) where

@@ -53,11 +53,11 @@ past (Some n) = suc n
 
 -- each given names the next older one under its enode
 abbrev pub Listed : List M.Given → List Given → Type 0
-Listed gs rows = (k : ℕ) → k < length rows → past (slice_index_or rows k no_row).older ≡ past (newest (under (slice_index_or rows k no_row).from) gs k)
+Listed gs rows = (k : ℕ) → k < length rows → (slice_index_or rows k no_row).older ≡ newest (under (slice_index_or rows k no_row).from) gs k
 
 -- each enode names the newest given under it
 abbrev pub Headed : List M.Given → List ENode → Type 0
-Headed gs es = (e : ℕ) → e < length es → past (slice_index_or es e no_enode).newest ≡ past (newest (under e) gs (length gs))
+Headed gs es = (e : ℕ) → e < length es → (slice_index_or es e no_enode).newest ≡ newest (under e) gs (length gs)
 
 -- the argument pairs of each given are among the first n
 abbrev pub Ranged : ℕ → List Given → Type 0

@@ -1,12 +1,13 @@
 -- What the tables of a case stand for, and what always holds of them. Assumes nothing.
-use Rattle.std.specs.Prelude.{◌≡◌, ℕ, ◌+◌, min, List, length, nat_le}
+use Rattle.std.specs.Prelude.{◌≡◌, ℕ, ◌+◌, min, List, length, nat_le, None}
 use Rattle.model.specs.Records as M
 use Rattle.model.specs.Records.{arg_count}
 use Rattle.model.specs.Frames.{Frames}
 use Rattle.model.specs.Walks.{Links, links}
 use Rattle.model.specs.Logging.{Case}
 use Rattle.model.specs.PathLaws.{EndsKnown}
-use Rattle.model.specs.Refusals.{full}
+use Rattle.model.specs.Refusals.{Refusal, full, refusal_of}
+use Rattle.model.specs.declared.error.Cause.{Cause}
 use Rattle.model.specs.Checks.{Check, require, and_then}
 use Rattle.model.specs.declared.error.TableName.TheVariants.{Givens, Arguments}
 use Rattle.egraph.specs.declared.records.Records.{Records}
@@ -56,3 +57,6 @@ abbrev pub room_checks : Records → ℕ → Check
 room_checks t n =
     and_then (require (nat_le (length (listed t.givens) + 1) (min 65536 (places t.givens))) (full Givens))
     (require (nat_le (length (listed t.arguments) + n) (min 131072 (places t.arguments))) (full Arguments))
+
+abbrev pub refuse_for : Cause → Refusal
+refuse_for c = refusal_of (record { cause = c; pair = None; level = 0; argument = None })

@@ -1,6 +1,8 @@
 // What is checked before a call changes anything.
 ghost use Rattle.std.specs.Prelude.{◌≡◌, [], ◌∷◌};
 ghost use Rattle.model.specs.Refusals.{told};
+ghost use Rattle.model.specs.Checks.{require};
+ghost use Rattle.egraph.specs.View.{refuse_for};
 ghost use Rattle.model.specs.Checks.{all_known};
 ghost use Rattle.model.specs.Explanations.{pairs_of, from_of, to_of, kind_of};
 ghost use Rattle.model.specs.Logging.{pair_ends, given_checks};
@@ -14,14 +16,21 @@ use frames::rule::FrameRule;
 use model::error::{Cause, Fault, TableName};
 use model::items::{ArgPairs, EqualityExpl, Pair};
 
+// Refuses for that cause what does not hold.
+pub(crate) fn require(holds: bool, cause: Cause) -> Result<(), Fault>
+    ensures { told result ≡ require holds (refuse_for cause) }
+{
+    if holds {
+        return Ok(());
+    }
+    Err(Fault::new(cause))
+}
+
 // Whether a table that is lent has the places needed.
 pub(crate) fn check_length(needed: usize, len: usize) -> Result<(), Fault>
     ensures { told result ≡ long_enough needed len }
 {
-    if len < needed {
-        return Err(Fault::new(Cause::Short(needed)));
-    }
-    Ok(())
+    require(len >= needed, Cause::Short(needed))
 }
 
 impl<'a, R: FrameRule> EGraph<'a, R> {
@@ -29,10 +38,10 @@ impl<'a, R: FrameRule> EGraph<'a, R> {
     pub(crate) fn check_enode(&self, enode: u32) -> Result<(), Fault>
         ensures { told result ≡ all_known (size_on_file self.now) (enode ∷ []) }
     {
-        if enode as usize >= self.records.enodes.len {
-            return Err(Fault::new(Cause::UnknownEnode(enode)));
-        }
-        Ok(())
+        require(
+            (enode as usize) < self.enode_count(),
+            Cause::UnknownEnode(enode),
+        )
     }
 
     pub(crate) fn check_known(&self, pair: Pair) -> Result<(), Fault>
@@ -75,9 +84,7 @@ impl<'a, R: FrameRule> EGraph<'a, R> {
         ensures { told result ≡ given_checks under (from_of expl.entry) (to_of expl.entry) (kind_of expl.entry) (case_on_file self.now) }
     {
         self.check_ends(under, expl)?;
-        if under != expl.from() {
-            return Err(Fault::new(Cause::NotFirstEnd(under)));
-        }
+        require(under == expl.from(), Cause::NotFirstEnd(under))?;
         self.check_room(expl.arg_eqs().len())
     }
 }

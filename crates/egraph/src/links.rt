@@ -40,12 +40,12 @@ impl<'a, R: FrameRule> EGraph<'a, R> {
     }
 
     // The oldest given of an enode to another, whichever frames count.
-    fn oldest_given(&self, from: u32, to: u32) -> Option<u32>
-        requires { from < size_on_file self.now }
-        ensures { result ≡ oldest_from 0 (between from to) (givens_on_file self.now) }
+    fn oldest_given(&self, pair: Pair) -> Option<u32>
+        requires { pair.from < size_on_file self.now }
+        ensures { result ≡ oldest_from 0 (between pair.from pair.to) (givens_on_file self.now) }
     {
-        self.givens_under(from)
-            .filter(|(_, given)| given.to == to)
+        self.givens_under(pair.from)
+            .filter(|(_, given)| given.to == pair.to)
             .last()
             .map(|(number, _)| number)
     }
@@ -54,7 +54,8 @@ impl<'a, R: FrameRule> EGraph<'a, R> {
     pub fn get_given(&self, from: u32, to: u32) -> Result<Option<u32>, Fault>
         ensures { told result ≡ get_given from to (records_in self.now.records) }
     {
-        self.check_known(Pair { from, to })?;
-        Ok(self.oldest_given(from, to))
+        let pair = Pair { from, to };
+        self.check_known(pair)?;
+        Ok(self.oldest_given(pair))
     }
 }

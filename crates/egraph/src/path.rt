@@ -15,7 +15,7 @@ use model::error::{Fault, asked};
 use model::items::{Pair, Step};
 
 impl<'a, R: FrameRule> EGraph<'a, R> {
-    // Walks from both enodes; there is a path where the walks end alike. The scratch is no struct, since this call alone would take it whole: the checks ask for lengths, and `write_steps` for the walks.
+    // Walks from both enodes; there is a path where the walks end alike. The scratch is no struct: tried, and what the calls lend to one is not seen at their end.
     pub(crate) fn get_simple_path(
         &self,
         pair: Pair,
@@ -48,7 +48,7 @@ impl<'a, R: FrameRule> EGraph<'a, R> {
     fn check_scratch(&self, marks: usize, walks: usize) -> Result<(), Fault>
         ensures { told result ≡ and_then (long_enough (size_on_file self.now) marks) (long_enough (2 * size_on_file self.now) walks) }
     {
-        let size = self.records.enodes.len;
+        let size = self.enode_count();
         check_length(size, marks)?;
         check_length(2 * size, walks)
     }
@@ -101,7 +101,7 @@ impl<'a, R: FrameRule> EGraph<'a, R> {
         ensures { told result ≡ path_checks (size_on_file self.now) pair marks walks steps }
     {
         self.check_scratch(marks, walks)?;
-        check_length(self.records.enodes.len, steps)?;
+        check_length(self.enode_count(), steps)?;
         self.check_known(pair)
     }
 

@@ -12,8 +12,8 @@ pub(crate) const GIVENS: usize = 65536;
 pub(crate) const ARGUMENTS: usize = 131072;
 
 #[derive(Drop)]
-pub struct Records<'a> {
-    pub enodes: Table<'a, ENode, ENODES>,
-    pub givens: Table<'a, Given, GIVENS>,
-    pub arguments: Table<'a, Pair, ARGUMENTS>,
+pub(crate) struct Records<'a> {
+    pub(crate) enodes: Table<'a, ENode, ENODES>,
+    pub(crate) givens: Table<'a, Given, GIVENS>,
+    pub(crate) arguments: Table<'a, Pair, ARGUMENTS>,
 }

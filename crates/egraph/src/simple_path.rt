@@ -3,10 +3,10 @@ ghost use Rattle.std.specs.Prelude.{◌≡◌, ◌-◌, ◌≤◌};
 ghost use Rattle.model.specs.Paths.{shared};
 
 #[derive(Drop)]
-pub struct SimplePath {
-    pub from_to_root: usize,
-    pub to_to_root: usize,
-    pub shared: usize,
+pub(crate) struct SimplePath {
+    pub(crate) from_to_root: usize,
+    pub(crate) to_to_root: usize,
+    pub(crate) shared: usize,
     ghost in_first: { shared ≤ from_to_root },
     ghost in_second: { shared ≤ to_to_root },
 }

@@ -24,17 +24,14 @@ impl<'a, R: FrameRule> EGraph<'a, R> {
         requires places { length enodes.now ≤ length steps.old }
         ensures { steps.new ≡ placed 0 (if forward then rising_steps (links_on_file self.now) enodes.now else falling_steps (links_on_file self.now) enodes.now) steps.old }
     {
-        // By index, since the order turns with the direction.
-        for i in 0..enodes.len() {
-            let enode = if forward {
-                enodes[i]
-            } else {
-                enodes[enodes.len() - 1 - i]
-            };
+        for (i, enode) in enodes.iter().enumerate() {
             steps[i] = Step {
-                given: self.given_up(enode),
+                given: self.given_up(*enode),
                 forward,
             };
+        }
+        if !forward {
+            steps[..enodes.len()].reverse();
         }
     }
 }

@@ -3,13 +3,14 @@ ghost use Rattle.std.specs.Prelude.{◌≡◌, ◌+◌, ◌<◌, ◌≤◌, min,
 ghost use Rattle.model.specs.Refusals.{full, told};
 ghost use Rattle.model.specs.Checks.{require};
 
+use crate::checks::require;
 use model::error::{Cause, Fault, TableName};
 
 // No more than `LIMIT` records go in, however long the rows are.
 #[derive(Drop)]
-pub struct Table<'a, T, const LIMIT: usize> {
-    pub rows: &'a mut [T],
-    pub len: usize,
+pub(crate) struct Table<'a, T, const LIMIT: usize> {
+    pub(crate) rows: &'a mut [T],
+    pub(crate) len: usize,
     ghost in_rows: { len ≤ length rows.now },
     ghost in_limit: { len ≤ LIMIT },
 }
@@ -36,10 +37,8 @@ impl<'a, T: Copy, const LIMIT: usize> Table<'a, T, LIMIT> {
     pub(crate) fn check_room(&self, more: usize, name: TableName) -> Result<(), Fault>
         ensures { told result ≡ require (nat_le (length (listed self.now) + more) (min LIMIT (places self.now))) (full name) }
     {
-        if more <= LIMIT - self.len && more <= self.rows.len() - self.len {
-            return Ok(());
-        }
-        Err(Fault::new(Cause::Full(name)))
+        let fits = more <= LIMIT - self.len && more <= self.rows.len() - self.len;
+        require(fits, Cause::Full(name))
     }
 
     // Another record in the place of one on file.
@@ -61,8 +60,7 @@ impl<'a, T: Copy, const LIMIT: usize> Table<'a, T, LIMIT> {
         ensures places { places self.new ≡ places self.old }
         ensures listed { listed self.new ≡ listed self.old ++ (row ∷ []) }
     {
-        let place = self.len;
-        self.rows[place] = row;
-        self.len = place + 1;
+        self.rows[self.len] = row;
+        self.len += 1;
     }
 }

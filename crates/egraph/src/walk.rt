@@ -46,7 +46,7 @@ impl<'a, R: FrameRule> EGraph<'a, R> {
         let guard = Marks { bytes: marks };
         let mut at = from;
         // `len` is answered; the enodes are found along the links, and no slice holds them.
-        for len in 0..self.records.enodes.len {
+        for len in 0..self.enode_count() {
             if guard.bytes[at as usize] != 0 {
                 return RootWalk {
                     tells: Some(at),
@@ -71,7 +71,7 @@ impl<'a, R: FrameRule> EGraph<'a, R> {
         }
         RootWalk {
             tells: Some(at),
-            len: self.records.enodes.len,
+            len: self.enode_count(),
         }
     }
 
@@ -84,7 +84,7 @@ impl<'a, R: FrameRule> EGraph<'a, R> {
     ) -> Result<(), Fault>
         ensures { told result ≡ walk_checks (size_on_file self.now) from root marks places }
     {
-        let size = self.records.enodes.len;
+        let size = self.enode_count();
         check_length(size, marks)?;
         check_length(size, places)?;
         self.check_enode(from)?;

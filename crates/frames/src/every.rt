@@ -6,7 +6,6 @@ use crate::table_rule::{FrameSet, TableRule};
 
 pub type Every = TableRule<HandedOut>;
 
-#[derive(Clone, Copy)]
 pub struct HandedOut;
 
 impl FrameSet for HandedOut {

@@ -7,7 +7,6 @@ use crate::table_rule::{FrameSet, TableRule};
 
 pub type Live = TableRule<OpenOnly>;
 
-#[derive(Clone, Copy)]
 pub struct OpenOnly;
 
 impl FrameSet for OpenOnly {

@@ -2,13 +2,14 @@
 ghost use Rattle.std.specs.Prelude.{◌≡◌, false, length};
 ghost use Rattle.model.specs.Frames.{Lawful, Within, base, current, is_open, open_frame, log_frame, close_frame};
 ghost use Rattle.model.specs.Refusals.{told};
+ghost use Rattle.frames.specs.declared.table.TheConstants.{MAX_OPEN};
 ghost use Rattle.frames.specs.Counting.{counted_up, all_below};
 
 use arrayvec::ArrayVec;
 use model::error::{Cause, Fault, TableName};
 use model::items::Frame;
 
-const MAX_OPEN: usize = 64;
+pub(crate) const MAX_OPEN: usize = 64;
 
 const MAX_NUMBERS: u32 = 65536;
 
@@ -19,7 +20,7 @@ const MAX_COUNT: u32 = 65536;
 pub struct FrameTable {
     frames: ArrayVec<Frame, MAX_OPEN>,
     next: u32,
-    pub ghost within: { Within 64 (all_below frames.items next) },
+    pub ghost within: { Within MAX_OPEN (all_below frames.items next) },
     pub ghost lawful: { Lawful (all_below frames.items next) },
 }
 
@@ -43,10 +44,7 @@ impl FrameTable {
         ensures { handed_out result ≡ base }
     {
         let mut frames = ArrayVec::new();
-        frames.push(Frame {
-            number: 0,
-            count: 0,
-        });
+        frames.push(Frame::default());
         FrameTable { frames, next: 1 }
     }
 
@@ -75,7 +73,7 @@ impl FrameTable {
     }
 
     pub fn open(&mut self) -> Result<u32, Fault>
-        ensures outcome { (told result, handed_out self.new) ≡ open_frame 64 (handed_out self.old) }
+        ensures outcome { (told result, handed_out self.new) ≡ open_frame MAX_OPEN (handed_out self.old) }
         ensures kept { OnErr result (self.new ≡ self.old) }
     {
         let number = self.next;

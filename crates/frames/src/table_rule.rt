@@ -1,12 +1,13 @@
 // The rules that go by the table of open frames alone: they differ in which of the frames handed out count.
 ghost use Rattle.std.specs.Prelude.{◌≡◌, ℕ, Bool, false, not, ◌&&◌, ◌||◌, ◌==◌};
 ghost use Rattle.model.specs.Frames.{Frames, Lawful, base, opened_more, counted_more, closed};
+ghost use Rattle.frames.specs.declared.table.TheConstants.{MAX_OPEN};
 ghost use Rattle.frames.specs.Counting.{counting};
 ghost use Rattle.frames.specs.Tables.{handed_out};
 ghost use Rattle.frames.specs.OpenFrames.{table_limited};
 
 use crate::rule::FrameRule;
-use crate::table::FrameTable;
+use crate::table::{FrameTable, MAX_OPEN};
 use model::error::Fault;
 use std::marker::PhantomData;
 
@@ -51,7 +52,7 @@ impl<S: FrameSet> TableRule<S> {
 impl<S: FrameSet> FrameRule for TableRule<S> {
     ghost means = { λ s. counting S.members (handed_out s.table) };
 
-    ghost limit = { 64 };
+    ghost limit = { MAX_OPEN };
 
     ghost leaves = { λ s. S.leaving (handed_out s.table) };
 

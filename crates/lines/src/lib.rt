@@ -6,3 +6,4 @@ mod parts;
 pub mod question;
 #[cfg(test)]
 mod tests;
+pub mod text;

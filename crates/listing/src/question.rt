@@ -1,5 +1,5 @@
 // Answers a question: the root walks of its two enodes, and the path between them.
-ghost use Rattle.std.specs.Prelude.{◌≡◌, ℕ, ◌≤◌, ◌++◌, string_bytes, OnOk};
+ghost use Rattle.std.specs.Prelude.{◌≡◌, ℕ, ◌≤◌, ◌++◌, OnOk};
 ghost use Rattle.egraph.specs.Graph.{links_on_file, size_on_file};
 ghost use Rattle.listing.specs.Question.{reply_text, question_text};
 ghost use Rattle.listing.specs.Answers.{shown, reply_shown};
@@ -8,7 +8,7 @@ use crate::scratch::{Scratch, Walks};
 use crate::text::Listing;
 use egraph::egraph::EGraph;
 use frames::rule::FrameRule;
-use lines::question::{ask_line, no_path_line, path_line, same_line, walk_line};
+use lines::text::Lines;
 use model::error::Fault;
 use model::items::Pair;
 use std::alloc::AllocError;
@@ -42,8 +42,8 @@ impl Scratch {
         }))
     }
 
-    fn show(&self, answer: Option<Walks>, pair: Pair, out: &mut String) -> Result<(), AllocError>
-        ensures { OnOk result (string_bytes out.new ≡ string_bytes out.old ++ shown pair self.now answer) }
+    fn show(&self, answer: Option<Walks>, pair: Pair, out: &mut Lines) -> Result<(), AllocError>
+        ensures { OnOk result (out.new ≡ out.old ++ shown pair self.now answer) }
     {
         let Some(
             Walks {
@@ -53,14 +53,14 @@ impl Scratch {
             },
         ) = answer
         else {
-            return same_line(out, pair.from);
+            return out.same(pair.from);
         };
         let (up, down) = (first.len, second.len);
-        walk_line(out, &self.first[0..up], first.tells)?;
-        walk_line(out, &self.second[0..down], second.tells)?;
+        out.walk(&self.first[..up], first.tells)?;
+        out.walk(&self.second[..down], second.tells)?;
         match steps {
-            Some(len) => path_line(out, &self.steps[0..len]),
-            None => no_path_line(out),
+            Some(len) => out.path(&self.steps[..len]),
+            None => out.no_path(),
         }
     }
 }
@@ -75,7 +75,7 @@ impl Listing {
     ) -> Result<(), AllocError>
         ensures { OnOk result (self.new ≡ self.old ++ question_text (links_on_file graph.now) (size_on_file graph.now) pair place) }
     {
-        ask_line(&mut self.out, pair.from, pair.to)?;
+        self.out.ask(pair.from, pair.to)?;
         match self.scratch.find(graph, pair) {
             Ok(answer) => self.scratch.show(answer, pair, &mut self.out),
             Err(fault) => self.show_fault(fault, place),

@@ -4,6 +4,7 @@ ghost use Rattle.egraph.specs.Graph.{case_on_file};
 ghost use Rattle.wordlog.specs.Calls.{call_of};
 ghost use Rattle.listing.specs.Runs.{call_text, After, Adds, Listed};
 
+use crate::scratch::ENODES;
 use crate::text::Listing;
 use egraph::egraph::EGraph;
 use egraph::enode::ENode;
@@ -25,15 +26,14 @@ impl Listing {
         ensures text { OnOk result (self.new ≡ self.old ++ call_text R.FrameRule.limit place (case_on_file graph.old) (call_of call.entry)) }
         ensures case { After R.FrameRule.limit (case_on_file graph.old) (call_of call.entry) (case_on_file graph.new) }
     {
-        match call {
-            Call::Enode { owner } => self.show_refusal(graph.new_enode(owner), place),
-            Call::Given { expl } => {
-                self.show_refusal(graph.new_given_equality(expl.from(), expl), place)
-            }
-            Call::Open => self.show_refusal(graph.new_frame(), place),
-            Call::Close => self.show_refusal(graph.pop_frame(), place),
-            Call::Ask { from, to, .. } => self.ask(graph, Pair { from, to }, place),
-        }
+        let answer = match call {
+            Call::Enode { owner } => graph.new_enode(owner),
+            Call::Given { expl } => graph.new_given_equality(expl.from(), expl),
+            Call::Open => graph.new_frame(),
+            Call::Close => graph.pop_frame(),
+            Call::Ask { from, to, .. } => return self.ask(graph, Pair { from, to }, place),
+        };
+        self.show_refusal(answer, place)
     }
 
     // Runs the log to its end, or to words that cannot be read. A plain loop, since a call's place is asked before the call is read.
@@ -47,14 +47,11 @@ impl Listing {
         let mut reader = Reader::new(log);
         'calls: loop {
             let place = reader.place();
-            let next = match reader.next_call() {
-                Ok(next) => next,
+            match reader.next_call() {
                 Err(fault) => return self.show_fault(fault, place),
-            };
-            let Some(call) = next else {
-                return Ok(());
-            };
-            self.run_call(graph, call, place)?;
+                Ok(None) => return Ok(()),
+                Ok(Some(call)) => self.run_call(graph, call, place)?,
+            }
         }
     }
 }
@@ -63,7 +60,7 @@ impl Listing {
 pub fn run<R: FrameRule + Drop>(rule: R, log: Log<'_>, heap: Global) -> Result<String, AllocError>
     ensures { IfOk result (λ text. Listed R.FrameRule.limit log.entry.words.now log.entry.ragged (R.FrameRule.means rule) (string_bytes text)) }
 {
-    let mut enodes = [ENode::default(); 128];
+    let mut enodes = [ENode::default(); ENODES];
     let mut givens = [Given::default(); 128];
     let mut arguments = [Pair::default(); 512];
     let mut graph = EGraph::new(&mut enodes, &mut givens, &mut arguments, rule);

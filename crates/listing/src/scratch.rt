@@ -1,8 +1,12 @@
-// The tables that a question works on, and what an answer keeps in them: the calls have no heap, so that their callers lend arrays.
+// The tables that a question works on, and what an answer keeps in them: arrays, since the page on the listing fixes how much it holds.
 ghost use Rattle.std.specs.Prelude.{◌≤◌, IfSome};
 ghost use Rattle.std.proofs.Props.{props};
+ghost use Rattle.listing.specs.declared.scratch.TheConstants.{ENODES};
 
 use model::items::{RootWalk, Step};
+
+// How many enodes the tables of a listing hold.
+pub const ENODES: usize = 128;
 
 // The root walks of a question's two enodes, and how many steps its path has, if there is one. Their enodes and steps stand in the scratch.
 #[derive(Clone, Copy)]
@@ -10,28 +14,28 @@ pub struct Walks {
     pub first: RootWalk,
     pub second: RootWalk,
     pub steps: Option<usize>,
-    ghost first_stands: { first.len ≤ 128 },
-    ghost second_stands: { second.len ≤ 128 },
-    ghost steps_stand: { IfSome steps (λ n. n ≤ 128) } by { Prim.hlevel props },
+    ghost first_stands: { first.len ≤ ENODES },
+    ghost second_stands: { second.len ≤ ENODES },
+    ghost steps_stand: { IfSome steps (λ n. n ≤ ENODES) } by { Prim.hlevel props },
 }
 
 #[derive(Drop)]
 pub struct Scratch {
-    pub marks: [u8; 128],
-    pub walks: [u32; 256],
-    pub first: [u32; 128],
-    pub second: [u32; 128],
-    pub steps: [Step; 128],
+    pub marks: [u8; ENODES],
+    pub walks: [u32; 2 * ENODES],
+    pub first: [u32; ENODES],
+    pub second: [u32; ENODES],
+    pub steps: [Step; ENODES],
 }
 
 impl Scratch {
     pub fn new() -> Scratch {
         Scratch {
-            marks: [0; 128],
-            walks: [0; 256],
-            first: [0; 128],
-            second: [0; 128],
-            steps: [Step::default(); 128],
+            marks: [0; ENODES],
+            walks: [0; 2 * ENODES],
+            first: [0; ENODES],
+            second: [0; ENODES],
+            steps: [Step::default(); ENODES],
         }
     }
 }

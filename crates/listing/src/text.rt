@@ -8,7 +8,7 @@ ghost use Rattle.listing.specs.Runs.{refusal_text};
 use crate::scratch::Scratch;
 use egraph::egraph::EGraph;
 use frames::rule::FrameRule;
-use lines::log::{refused_line, totals_line};
+use lines::text::Lines;
 use model::error::Fault;
 use std::alloc::{AllocError, Global};
 use std::marker::Model;
@@ -16,13 +16,13 @@ use std::marker::Model;
 #[derive(Drop)]
 pub struct Listing {
     pub(crate) scratch: Scratch,
-    pub(crate) out: String,
+    pub(crate) out: Lines,
 }
 
 impl Model for Listing {
     ghost Value = { List ℕ };
 
-    ghost view = { λ l. string_bytes l.out };
+    ghost view = { λ l. l.out };
 }
 
 impl Listing {
@@ -31,14 +31,14 @@ impl Listing {
     {
         Listing {
             scratch: Scratch::new(),
-            out: String::new(heap),
+            out: Lines::new(heap),
         }
     }
 
     pub(crate) fn show_fault(&mut self, fault: Fault, place: u32) -> Result<(), AllocError>
         ensures { OnOk result (self.new ≡ self.old ++ refused_text (number_of fault.cause) place) }
     {
-        refused_line(&mut self.out, fault.cause.number(), place)
+        self.out.refused(fault.cause.number(), place)
     }
 
     // A call that is not refused prints nothing.
@@ -64,13 +64,13 @@ impl Listing {
     {
         let enodes = graph.enode_count() as u32;
         let givens = graph.given_count() as u32;
-        totals_line(&mut self.out, enodes, givens, graph.height())
+        self.out.totals(enodes, givens, graph.height())
     }
 
     pub(crate) fn into_text(self) -> String
         ensures { string_bytes result ≡ self }
     {
         let Listing { scratch: _, out } = self;
-        out
+        out.into_text()
     }
 }

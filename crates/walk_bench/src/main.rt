@@ -16,10 +16,12 @@ use std::{env, io};
 
 // An argument as a number, or what stands in for it.
 fn number(rt: &HostRuntime, place: usize, otherwise: u32) -> io::Result<u32> {
-    let Some(word) = env::args(rt)?.nth(place) else {
-        return Ok(otherwise);
-    };
-    Ok(word.as_str().parse().unwrap_or(otherwise))
+    Ok(
+        env::args(rt)?
+            .nth(place)
+            .and_then(|word| word.as_str().parse().ok())
+            .unwrap_or(otherwise),
+    )
 }
 
 // How many enodes so many walks meet.

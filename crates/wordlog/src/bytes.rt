@@ -25,7 +25,7 @@ pub fn words_of(bytes: &[u8], out: &mut [u32]) -> usize
 {
     let (fours, _) = bytes.as_chunks::<4>();
     let count = fours.len().min(out.len());
-    // `out` is written by index: of what iter_mut lends a proof knows only the length.
+    // `out` is written by index: a proof does not see what a `zip` over iter_mut writes.
     for (i, four) in fours[..count].iter().enumerate() {
         out[i] = word_of(four);
     }

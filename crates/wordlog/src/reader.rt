@@ -1,5 +1,6 @@
 // Reads the calls of a log.
 ghost use Rattle.std.specs.Prelude.{◌≡◌, ◌≤◌, length};
+ghost use Rattle.wordlog.specs.declared.reader.TheConstants.{LIMIT};
 ghost use Rattle.wordlog.specs.Calls.{front_as};
 ghost use Rattle.wordlog.specs.Reading.{front, Accepts, Complete};
 ghost use Rattle.wordlog.specs.Log.{next, next_as, Within, moved, answer_as, words_read, ragged_read};
@@ -36,7 +37,7 @@ pub struct Log<'a> {
 impl<'a> Log<'a> {
     // The call at a place of the words, and the place behind it.
     fn call_at(self, at: usize) -> Result<(Option<Call<'a>>, usize), Fault>
-        requires { (at ≤ length self.words.now) × (length self.words.now ≤ 16384) }
+        requires { (at ≤ length self.words.now) × (length self.words.now ≤ LIMIT) }
         ensures is { next_as result ≡ next self.entry.words.now self.entry.ragged at }
         ensures within { Within result (length self.entry.words.now) }
     {
@@ -58,7 +59,7 @@ impl<'a> Log<'a> {
 pub struct Reader<'a> {
     log: Log<'a>,
     at: usize,
-    ghost short: { length log.words.now ≤ 16384 },
+    ghost short: { length log.words.now ≤ LIMIT },
     ghost within: { at ≤ length log.words.now },
 }
 

@@ -102,6 +102,5 @@ pub fn written_reads_back<'a>(call: &Call<'_>, out: &'a mut [u32]) -> Option<Cal
     ensures { ReadsBack (call_of call.now) (length out.old) (call_as result) }
 {
     write_call(call, out)?;
-    let (back, _) = read_call(out)?;
-    Some(back)
+    read_call(out).map(|(back, _)| back)
 }

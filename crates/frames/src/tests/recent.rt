@@ -1,13 +1,14 @@
 // A rule that remembers the order of its closings: the open frames count, and so does the one that was closed last.
-// It is a rule of its own, since a `FrameSet` has no state.
+// It implements `FrameRule` itself: that is what it tests.
 ghost use Rattle.std.specs.Prelude.{not};
 ghost use Rattle.model.specs.Frames.{is_open};
+ghost use Rattle.frames.specs.declared.table.TheConstants.{MAX_OPEN};
 ghost use Rattle.frames.specs.Counting.{open_also};
 ghost use Rattle.frames.specs.Tables.{handed_out};
 ghost use Rattle.frames.specs.OpenFrames.{open_also_lawful, table_limited};
 
 use crate::rule::FrameRule;
-use crate::table::FrameTable;
+use crate::table::{FrameTable, MAX_OPEN};
 use model::error::Fault;
 
 #[derive(Drop)]
@@ -28,7 +29,7 @@ impl Recent {
 impl FrameRule for Recent {
     ghost means = { λ s. open_also s.closed (handed_out s.table) };
 
-    ghost limit = { 64 };
+    ghost limit = { MAX_OPEN };
 
     ghost leaves = { λ s f. not (is_open f (handed_out s.table).opened) };
 

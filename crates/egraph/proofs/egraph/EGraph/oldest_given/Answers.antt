@@ -13,7 +13,7 @@ use Rattle.egraph.proofs.egraph.EGraph.oldest_given.Goals as goal
 pub returns : goal.returns
 returns g c =
     let s = c.args.self.now in
-    let all = items_from_drains c.last.ensures.ran.0 (c.last.ensures.ran.1.1.0, c.last.ensures.ran.1.1.1, λ _. (c.last.ensures.ran.1.0, c.last.ensures.ran.1.1.2)) (YieldsList-from_filter _ (λ p. eqb p.1.to c.args.to) (YieldsList-at c.filter.ensures.source (YieldsList-from_first (λ x. x) (λ i. givens_back i.rows.now i.next) _ c.givens_under.ensures)) c.filter.ensures.closure (λ x r q k. search (rules, tests))) in
+    let all = items_from_drains c.last.ensures.ran.0 (c.last.ensures.ran.1.1.0, c.last.ensures.ran.1.1.1, λ _. (c.last.ensures.ran.1.0, c.last.ensures.ran.1.1.2)) (YieldsList-from_filter _ (λ p. eqb p.1.to c.args.pair.to) (YieldsList-at c.filter.ensures.source (YieldsList-from_first (λ x. x) (λ i. givens_back i.rows.now i.next) _ c.givens_under.ensures)) c.filter.ensures.closure (λ x r q k. search (rules, tests))) in
     let mapped : c.map.result ≡ option_map number c.last.result = search rules in
-    let left : c.last.ensures.ran.0 ≡ leading s.records c.args.from c.args.to (newest_first c.args.from (listed s.records.givens) (length (listed s.records.givens))) = sym (map-id c.last.ensures.ran.0) ∙ all in
-    mapped ∙ ap (option_map number) (c.last.ensures.ran.2 ∙ ap (last_or None) left) ∙ oldest_found s.records c.args.from c.args.to
+    let left : c.last.ensures.ran.0 ≡ leading s.records c.args.pair.from c.args.pair.to (newest_first c.args.pair.from (listed s.records.givens) (length (listed s.records.givens))) = sym (map-id c.last.ensures.ran.0) ∙ all in
+    mapped ∙ ap (option_map number) (c.last.ensures.ran.2 ∙ ap (last_or None) left) ∙ oldest_found s.records c.args.pair.from c.args.pair.to

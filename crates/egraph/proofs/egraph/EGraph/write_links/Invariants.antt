@@ -5,4 +5,4 @@ use Rattle.egraph.proofs.StepPlaces.{steps_over}
 use Rattle.egraph.proofs.egraph.EGraph.write_links.Given as goal
 
 abbrev pub invariant-loop-i : goal.invariant-loop-i
-invariant-loop-i g l = l.steps ≡ placed 0 (take l.i (steps_over (links_in (g.R.FrameRule.means l.self.rule) l.self.records) l.enodes l.forward)) l.initial.steps
+invariant-loop-i g l = l.steps ≡ placed 0 (take l.i (steps_over (links_in (g.R.FrameRule.means l.self.rule) l.self.records) l.forward l.enodes)) l.initial.steps

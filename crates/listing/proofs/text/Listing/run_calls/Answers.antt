@@ -16,9 +16,9 @@ calls-smaller g c =
     let r = c.calls.reader in
     let s = c.next_call.new.self in
     let n = next r.log.words.now r.log.ragged r.at in
-    let read = read_as c.in-Ok.next (Some c.in-Some.call) s.at (moved r.at n) c.in-Some.is c.in-Ok.ensures.outcome in
-    let further = next_further r.log.words.now r.log.ragged r.at (call_of c.in-Some.call) s.at (moved_on r.at n (Some (call_of c.in-Some.call)) s.at read) in
-    omega (arith, ap length c.in-Ok.ensures.words, s.within, further)
+    let read = read_as c.in-Ok-Some.field-0 (Some c.in-Ok-Some.call) s.at (moved r.at n) c.in-Ok-Some.field-0-is c.in-Ok-Some.ensures.outcome in
+    let further = next_further r.log.words.now r.log.ragged r.at (call_of c.in-Ok-Some.call) s.at (moved_on r.at n (Some (call_of c.in-Ok-Some.call)) s.at read) in
+    omega (arith, ap length c.in-Ok-Some.ensures.words, s.within, further)
 
 pub calls-preserved : goal.calls-preserved
 calls-preserved g c =
@@ -27,17 +27,17 @@ calls-preserved g c =
     let u = c.run_call.new.graph in
     let k = case_of (g.R.FrameRule.means t.rule) t.records in
     let s = c.next_call.new.self in
-    let read = read_as c.in-Ok.next (Some c.in-Some.call) s.at (moved r.at (next r.log.words.now r.log.ragged r.at)) c.in-Some.is c.in-Ok.ensures.outcome in
+    let read = read_as c.in-Ok-Some.field-0 (Some c.in-Ok-Some.call) s.at (moved r.at (next r.log.words.now r.log.ragged r.at)) c.in-Ok-Some.field-0-is c.in-Ok-Some.ensures.outcome in
     called g.R.FrameRule.limit c.args.log.words.now c.args.log.ragged _ _ k c.calls.self r.log.words.now r.log.ragged r.at c.calls.invariant
-    (call_of c.in-Some.call) s.at (case_of (g.R.FrameRule.means u.rule) u.records) c.run_call.new.self s.log.words.now s.log.ragged
-    c.in-Ok.ensures.words c.in-Ok.ensures.ragged read c.in_ok-run_call.ensures.case
-    (c.in_ok-run_call.ensures.text ∙ ap (λ p. c.calls.self ++ call_text g.R.FrameRule.limit p k (call_of c.in-Some.call)) c.place-place.ensures)
+    (call_of c.in-Ok-Some.call) s.at (case_of (g.R.FrameRule.means u.rule) u.records) c.run_call.new.self s.log.words.now s.log.ragged
+    c.in-Ok-Some.ensures.words c.in-Ok-Some.ensures.ragged read c.in_ok-run_call-in-Ok-Some.ensures.case
+    (c.in_ok-run_call-in-Ok-Some.ensures.text ∙ ap (λ p. c.calls.self ++ call_text g.R.FrameRule.limit p k (call_of c.in-Ok-Some.call)) c.place-place.ensures)
 
-pub returns-in_default : goal.returns-in_default
-returns-in_default g c =
+pub returns-in-Ok-None : goal.returns-in-Ok-None
+returns-in-Ok-None g c =
     let r = c.calls.reader in
     let s = c.next_call.new.self in
-    let read = read_as c.in-Ok.next None s.at (moved r.at (next r.log.words.now r.log.ragged r.at)) c.in_default.is c.in-Ok.ensures.outcome in
+    let read = read_as c.in-Ok-None.field-0 None s.at (moved r.at (next r.log.words.now r.log.ragged r.at)) c.in-Ok-None.field-0-is c.in-Ok-None.ensures.outcome in
     ended g.R.FrameRule.limit c.args.log.words.now c.args.log.ragged _ _ _ _ r.log.words.now r.log.ragged r.at c.calls.invariant s.at read
 
 pub returns-in-Err : goal.returns-in-Err
