@@ -1,6 +1,6 @@
 // A given's record. The givens logged under one enode form a list, newest first; they go by number, since the tables are lent and there is no heap.
 
-// Where a given came from. A congruence has `len` argument pairs from the place `start` on.
+// Where a given came from. A congruence has `len` argument pairs from the place `start` on. No generic enum with `EqualityExpl`, which has the ends and keeps the original's cases.
 #[derive(Clone, Copy, Default, PartialEq, Eq, Debug)]
 pub enum Kind {
     #[default]

@@ -50,6 +50,7 @@ impl<'a, R: FrameRule> EGraph<'a, R> {
             .map(|(number, _)| number)
     }
 
+    // Two enodes and no pair, as the original's calls have them.
     #[tactic(auto, using(crate::proofs::Sizes::size_in))]
     pub fn get_given(&self, from: u32, to: u32) -> Result<Option<u32>, Fault>
         ensures { told result ≡ get_given from to (records_in self.now.records) }

@@ -10,7 +10,7 @@ use frames::rule::FrameRule;
 use model::items::Step;
 
 impl<'a, R: FrameRule> EGraph<'a, R> {
-    // The given that an enode's link follows.
+    // The given that an enode's link follows; 0 where there is none, as the definitions have it.
     fn given_up(&self, enode: u32) -> u32
         requires { enode < size_on_file self.now }
         ensures { result ≡ given_of (links_on_file self.now enode) }

@@ -25,7 +25,7 @@ fn run_call<R: FrameRule>(rule: &mut R, call: FrameCall) -> Result<u32, Fault>
     }
 }
 
-// Makes the calls in order, and answers how many of them were refused.
+// Makes the calls in order, and answers how many of them were refused. A `for`: as a chain its proof does not close.
 pub fn run_frames<R: FrameRule>(rule: &mut R, calls: &[FrameCall]) -> usize
     ensures reaches { Reaches R.FrameRule.limit (R.FrameRule.means rule.old) calls.now result (R.FrameRule.means rule.new) }
     ensures lawful { Lawful (R.FrameRule.means rule.new) }

@@ -4,7 +4,7 @@ ghost use Rattle.wordlog.specs.Calls.{permission, Permits};
 
 use model::items::EqualityExpl;
 
-// Which mismatches a question may meet: in itself, and in its arguments.
+// Which mismatches a question may meet: in itself, and in its arguments. The original's struct, and no set of bits.
 #[derive(Clone, Copy, Debug, PartialEq, Eq)]
 pub struct TransEqAllowed {
     pub can_mismatch_initial: bool,
