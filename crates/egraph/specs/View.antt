@@ -58,5 +58,6 @@ room_checks t n =
     and_then (require (nat_le (length (listed t.givens) + 1) (min 65536 (places t.givens))) (full Givens))
     (require (nat_le (length (listed t.arguments) + n) (min 131072 (places t.arguments))) (full Arguments))
 
+-- the refusal for a cause, outside of questions
 abbrev pub refuse_for : Cause → Refusal
 refuse_for c = refusal_of (record { cause = c; pair = None; level = 0; argument = None })

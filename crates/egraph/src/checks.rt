@@ -1,14 +1,12 @@
 // What is checked before a call changes anything.
 ghost use Rattle.std.specs.Prelude.{◌≡◌, [], ◌∷◌};
 ghost use Rattle.model.specs.Refusals.{told};
-ghost use Rattle.model.specs.Checks.{require};
-ghost use Rattle.egraph.specs.View.{refuse_for};
-ghost use Rattle.model.specs.Checks.{all_known};
+ghost use Rattle.model.specs.Checks.{all_known, require};
 ghost use Rattle.model.specs.Explanations.{pairs_of, from_of, to_of, kind_of};
 ghost use Rattle.model.specs.Logging.{pair_ends, given_checks};
 ghost use Rattle.model.specs.WalkCalls.{long_enough};
 ghost use Rattle.egraph.specs.Graph.{case_on_file, size_on_file};
-ghost use Rattle.egraph.specs.View.{room_checks};
+ghost use Rattle.egraph.specs.View.{refuse_for, room_checks};
 ghost use Rattle.model.specs.Records.{args_of};
 
 use crate::egraph::EGraph;
