@@ -13,7 +13,7 @@ use Rattle.model.proofs.Strikes.{same_step_eq}
 use Rattle.model.proofs.Growth.{Longer, longer_reads}
 use Rattle.model.proofs.PathPlaces.{drop_here}
 
-same_steps_eq : (xs ys : List Step) → same_steps xs ys ≡ true → xs ≡ ys
+pub same_steps_eq : (xs ys : List Step) → same_steps xs ys ≡ true → xs ≡ ys
 same_steps_eq [] [] h = refl
 same_steps_eq [] (y ∷ ys) h = cc
 same_steps_eq (x ∷ xs) [] h = cc

@@ -34,7 +34,7 @@ module _ {us vs : List Use} (more : MoreUses us vs) where
   same_use : (g u : ℕ) → u < length (uses_of g us) → get_or (uses_of g vs) u [] ≡ get_or (uses_of g us) u []
   same_use g u lt = ap (λ (l : List (List ℕ)). get_or l u []) (ap (uses_of g) more.is ∙ uses_append g us more.newer) ∙ get_or_append_left (uses_of g us) (uses_of g more.newer) [] u lt
 
-  use_below_more : {m n : ℕ} → m ≤ n → (g u : ℕ) → UseBelow us m g u → UseBelow vs n g u
+  pub use_below_more : {m n : ℕ} → m ≤ n → (g u : ℕ) → UseBelow us m g u → UseBelow vs n g u
   use_below_more {m} {n} le g u h = record {
     filed = omega (arith, h.filed, ap (λ l. length (uses_of g l)) more.is, ap length (uses_append g us more.newer), length-append (uses_of g us) (uses_of g more.newer));
     below = λ k q. let lt : k < m = h.below k (subst (λ l. met k l ≡ true) (same_use g u h.filed) q) in omega arith;

@@ -57,6 +57,11 @@ newest_push test gs g =
     let last : given_at (gs ++ (g ∷ [])) (length gs) ≡ g = get_or_push gs g no_given (length gs) refl in
     rw (last, newest_append test gs (g ∷ []) (length gs) (omega arith))
 
+-- tests that agree on the first n givens find the same one
+pub newest_same : (test test' : Given → Bool) (gs : List Given) (n : ℕ) → ((j : ℕ) → j < n → test (given_at gs j) ≡ test' (given_at gs j)) → newest test gs n ≡ newest test' gs n
+newest_same test test' gs zero same = refl
+newest_same test test' gs (suc n) same = rw (same n (omega arith), newest_same test test' gs n (λ j lt. same j (omega arith)))
+
 -- the given that a link follows is on file, begins at the enode and leads to the link's end
 pub record Linked (gs : List Given) (e : ℕ) (l : Link) : Type 0 where
   pub on_file : l.given < length gs
@@ -68,7 +73,7 @@ module _ (counts : ℕ → Bool) (gs : List Given) (e : ℕ) (l : Link) (is : li
   parts = grind arith
 
   -- a link follows the newest given of its enode whose frame counts
-  link_newest : Newest (counting counts e) gs (length gs) l.given
+  pub link_newest : Newest (counting counts e) gs (length gs) l.given
   link_newest = newest_found (counting counts e) gs (length gs) l.given parts.0
 
   pub linked : Linked gs e l

@@ -16,11 +16,11 @@ use Rattle.model.proofs.Citations.{Cited, UseBelow, use_new}
 use Rattle.model.proofs.Remembering.{Sound, with_entry, sound_dropped, sound_used, sound_filed}
 
 module _ (P : Question → Type 0) where
-  each_append : (qs rs : List Question) → Each P qs → Each P rs → Each P (qs ++ rs)
+  pub each_append : (qs rs : List Question) → Each P qs → Each P rs → Each P (qs ++ rs)
   each_append [] rs h k = k
   each_append (q ∷ qs) rs h k = (h.0, each_append qs rs h.1 k)
 
-  each_parts : (qs rs : List Question) → Each P (qs ++ rs) → Each P qs × Each P rs
+  pub each_parts : (qs rs : List Question) → Each P (qs ++ rs) → Each P qs × Each P rs
   each_parts [] rs h = (tt, h)
   each_parts (q ∷ qs) rs h = let more = each_parts qs rs h.1 in ((h.0, more.0), more.1)
 

@@ -51,7 +51,7 @@ module _ (next : Links) (size : ℕ) (within : Within next size) where
         ] in
         root_last next (Some f) size [] b f there (eq-eqb f f refl)
 
-    path_exists : is_some (path next size a b) ≡ check_eq next size a b
+    pub path_exists : is_some (path next size a b) ≡ check_eq next size a b
     path_exists = grind (arith, nat_tests, ends_share, share_ends)
 
   -- where a's walk has no circle, the second walk is the one that is told no root
@@ -90,7 +90,7 @@ module _ (next : Links) (size : ℕ) (within : Within next size) where
             follows_ancestor next top z (top ∷ tail) (follows_from next a top rising tail from_a) (grind (arith, met_append z rising (top ∷ tail), met_append z falling (top ∷ tail), m.together.apart z));
       }
 
-  path_over_nearest : (a b : ℕ) → a < size → b < size → (p : Path) → NoCircle a (root_walk next size None a) → path next size a b ≡ Some p → OverNearest next a b p.steps
+  pub path_over_nearest : (a b : ℕ) → a < size → b < size → (p : Path) → NoCircle a (root_walk next size None a) → path next size a b ≡ Some p → OverNearest next a b p.steps
   path_over_nearest a b la lb p nc h =
       let pl = plain a b p (walk_terminal next size a la nc) h in
       let m = plain_meet a b la lb pl.ends in
@@ -104,7 +104,7 @@ module _ (next : Links) (size : ℕ) (within : Within next size) where
         is = ap (λ (q : Path). q.steps) (pl.is ∙ join_over next m.together);
       }
 
-  path_turns : (a b : ℕ) → a < size → b < size → (p : Path) → NoCircle a (root_walk next size None a) → path next size a b ≡ Some p →
+  pub path_turns : (a b : ℕ) → a < size → b < size → (p : Path) → NoCircle a (root_walk next size None a) → path next size a b ≡ Some p →
       (q : Path) × (path next size b a ≡ Some q) × (q.steps ≡ turned p.steps)
   path_turns a b la lb p nc h =
       let end = walk_terminal next size a la nc in
@@ -127,7 +127,7 @@ module _ (next : Links) (size : ℕ) (within : Within next size) where
         ∙ ap (reduce A) (reduce_forth B (reduce (turned C) []) (reduce_reduced (turned C) [] tt))
         ∙ sym (join_reduces ac [] tt)
 
-    paths_compose : (a b c : ℕ) → a < size → b < size → c < size → (p q : Path) → NoCircle a (root_walk next size None a) → path next size a b ≡ Some p → path next size b c ≡ Some q →
+    pub paths_compose : (a b c : ℕ) → a < size → b < size → c < size → (p q : Path) → NoCircle a (root_walk next size None a) → path next size a b ≡ Some p → path next size b c ≡ Some q →
         (r : Path) × (path next size a c ≡ Some r)
         × Bare r.steps
         × ((zs : List Step) → Strikes (p.steps ++ q.steps) zs → Bare zs → zs ≡ r.steps)

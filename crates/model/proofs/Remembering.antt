@@ -16,7 +16,7 @@ without_gone [] a b = refl
 without_gone (s ∷ ss) a b = grind (arith, nat_tests, without_gone ss a b)
 
 -- dropping a pair makes nothing stand
-without_stands : (ss : List Standing) (a b x y n : ℕ) → stands (without ss a b) x y ≡ Some n → stands ss x y ≡ Some n
+pub without_stands : (ss : List Standing) (a b x y n : ℕ) → stands (without ss a b) x y ≡ Some n → stands ss x y ≡ Some n
 without_stands [] a b x y n h = h
 without_stands (s ∷ ss) a b x y n h = grind (arith, nat_tests, without_gone ss a b, without_stands ss a b x y n)
 
@@ -60,7 +60,7 @@ sound_filed m p e cites bare s = record {
 }
 
 -- an entry that is not on file reads as nothing
-reads_past : (es : List Entry) (n : ℕ) → length es ≤ n → reads es n ≡ []
+pub reads_past : (es : List Entry) (n : ℕ) → length es ≤ n → reads es n ≡ []
 reads_past [] n h = refl
 reads_past (e ∷ es) n h = grind (arith, nat_tests, reads_past es n)
 

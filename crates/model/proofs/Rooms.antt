@@ -15,7 +15,7 @@ pub record Room (size room : ℕ) (seen : List ℕ) : Type 0 where
 pub room_start : (size room : ℕ) → size ≤ room → Room size room []
 room_start size room le = record { distinct = tt; below = λ y m. grind arith; enough = omega arith }
 
-room_less : {size room : ℕ} {seen : List ℕ} (e : ℕ) → Room size room seen → e < size → met e seen ≡ false → Room size (room - 1) (e ∷ seen)
+pub room_less : {size room : ℕ} {seen : List ℕ} (e : ℕ) → Room size room seen → e < size → met e seen ≡ false → Room size (room - 1) (e ∷ seen)
 room_less {size} {room} {seen} e r lt new =
     let below : Below size (e ∷ seen) = λ y m. grind (arith, nat_tests, r.below) in
     let short : length (e ∷ seen) ≤ size = distinct_short size (e ∷ seen) (new, r.distinct) below in
@@ -27,7 +27,7 @@ room_suc {size} {room} {seen} e r lt new =
     subst (λ n. Room size n (e ∷ seen)) less (room_less e r lt new)
 
 -- where no room is left, every enode is seen
-room_none : {size : ℕ} {seen : List ℕ} (e : ℕ) → Room size 0 seen → e < size → met e seen ≡ true
+pub room_none : {size : ℕ} {seen : List ℕ} (e : ℕ) → Room size 0 seen → e < size → met e seen ≡ true
 room_none {size} {seen} e r lt = full size seen r.distinct r.below (omega (arith, r.enough)) e lt
 
 -- the enodes that the list's enodes link to are in it

@@ -120,14 +120,14 @@ module _ (s : Session) (h : InOrder s) where
   unless_short_asked p (Err r) short t a = record { goes_on = went _ s.memory [] (passes_self h.sound); says = λ five _. absurd (omega (arith, short, five)) }
 
   module _ (limit : ℕ) (leaves : ℕ → Bool) where
-    ask_asked : (may a b : ℕ) → Asked s (record { from = a; to = b }) (turn limit leaves (F.ask may a b) s)
+    pub ask_asked : (may a b : ℕ) → Asked s (record { from = a; to = b }) (turn limit leaves (F.ask may a b) s)
     unfolding turn ask
     ask_asked may a b =
         let p : Pair = record { from = a; to = b } in
         unless_short_asked p _ (asked_short p (scratch_checks s) (scratch_short s)) _
         (answered p _ (ask_does (links_of s.case) s.case.records s.places (path_laid s.case.frames.counts s.case.records.givens (size_of s)) 33 0 (permission may) p s.memory h.sound).holds)
 
-    turn_goes_on : (c : Call) → GoesOn s (turn limit leaves c s)
+    pub turn_goes_on : (c : Call) → GoesOn s (turn limit leaves c s)
     unfolding turn
     turn_goes_on (F.enode owner) = logged_goes_on s _ h (enode_grown s.case h.ends owner)
     turn_goes_on (F.given a b kind) = logged_goes_on s _ h (given_grown s.case h.ends a b kind)

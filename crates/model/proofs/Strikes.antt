@@ -16,7 +16,7 @@ same_step_eq s t h =
     let w : s.forward ≡ t.forward = grind (arith, nat_tests) in
     λ i. step (g i) (w i)
 
-same_step_refl : (s : Step) → same_step s s ≡ true
+pub same_step_refl : (s : Step) → same_step s s ≡ true
 same_step_refl s = grind (arith, nat_tests)
 
 -- no two side by side are there and back
@@ -90,7 +90,7 @@ reduce_strikes xs zs (one {ys} k more) =
     ∙ reduce_strikes ys zs more
 
 -- nothing is left to strike out exactly in a reduced word
-reduced_from_bare : (xs : List Step) → Bare xs → Reduced xs
+pub reduced_from_bare : (xs : List Step) → Bare xs → Reduced xs
 reduced_from_bare [] b = tt
 reduced_from_bare (s ∷ []) b = tt
 reduced_from_bare (s ∷ t ∷ ts) b = (

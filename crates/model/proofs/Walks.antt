@@ -1,5 +1,5 @@
 -- What a walk meets, by the links that it follows. Assumes nothing.
-use Rattle.std.proofs.Common.{◌≡◌, ℕ, zero, suc, ◌<◌, ◌≤◌, Bool, true, false, List, [], ◌∷◌, ◌++◌, length, Some, None, Option, refl, arith}
+use Rattle.std.proofs.Common.{◌≡◌, ℕ, zero, suc, ◌<◌, ◌≤◌, Bool, true, false, ◌||◌, eqb, List, [], ◌∷◌, ◌++◌, length, Some, None, Option, refl, ap, ◌∙◌, arith}
 use Rattle.std.proofs.lemmas.Bool.Decides.{nat_tests}
 use Rattle.model.specs.declared.items.Link.{Link}
 use Rattle.model.specs.Walks.{Links, Walk, again, met, Distinct, is_root, visit, walk, root_walk, last}
@@ -48,7 +48,7 @@ module _ (next : Links) (root : Option ℕ) where
   walked room seen e = (walk next root room seen e).enodes
 
   -- what a walk meets, it had not seen
-  walk_unseen : (room : ℕ) (seen : List ℕ) (e x : ℕ) → met x (walked room seen e) ≡ true → met x seen ≡ false
+  pub walk_unseen : (room : ℕ) (seen : List ℕ) (e x : ℕ) → met x (walked room seen e) ≡ true → met x seen ≡ false
   walk_unseen zero seen e x h = grind arith
   walk_unseen (suc room) seen e x h = grind (arith, nat_tests, walk_unseen room (e ∷ seen))
 
@@ -83,6 +83,14 @@ module _ (next : Links) (root : Option ℕ) where
   root_last (suc room) seen e x h r =
       let any : (y : ℕ) → met x (walked room (e ∷ seen) y) ≡ true → last e (walked room (e ∷ seen) y) ≡ last y (walked room (e ∷ seen) y) = λ y. last_any x e y _ in
       grind (arith, nat_tests, root_last room (e ∷ seen), any)
+
+  -- of what it has seen a walk knows only which enodes it has met
+  pub walk_same_seen : (room : ℕ) (seen seen' : List ℕ) (e : ℕ) → ((x : ℕ) → met x seen ≡ met x seen') → walk next root room seen e ≡ walk next root room seen' e
+  walk_same_seen zero seen seen' e same = refl
+  walk_same_seen (suc room) seen seen' e same =
+      let ih : (y : ℕ) → walk next root room (e ∷ seen) y ≡ walk next root room (e ∷ seen') y = λ y. walk_same_seen room (e ∷ seen) (e ∷ seen') y (λ x. ap (λ b. eqb x e || b) (same x)) in
+      ap (λ b. visit e (λ x. walk next root room (e ∷ seen) x) b (is_root root e) (next e)) (same e)
+      ∙ visit_same e (λ x. walk next root room (e ∷ seen) x) (λ x. walk next root room (e ∷ seen') x) (met e seen') (is_root root e) (next e) (λ l _ _. ih l.to)
 
   -- a root walk begins with its enode
   pub walk_begins : (size e : ℕ) → e < size → (xs : List ℕ) × ((root_walk next size root e).enodes ≡ e ∷ xs)
