@@ -20,5 +20,6 @@ module _ (members : Frames → ℕ → Bool) (m n : Frames) (r : Result ℕ Refu
   pub logging_seen : ((f : ℕ) → members (counted_more m) f ≡ members m f) → (r, n) ≡ log_frame m → (r, counting members n) ≡ log_frame (counting members m)
   logging_seen law h = either_way (counting members) (nat_lt (current m.opened).count 65536) _ _ m (counted_more m) (counted_more (counting members m)) (rw (fun_ext law)) r n h
 
-  pub closing_seen : (leaving : ℕ → Bool) → ((f : ℕ) → members (closed (λ _. false) m) f ≡ (members m f && not (leaving f))) → (r, n) ≡ close_frame (λ _. false) m → (r, counting members n) ≡ close_frame leaving (counting members m)
-  closing_seen leaving law h = either_way (counting members) (nat_lt 1 (length m.opened)) _ _ m (closed (λ _. false) m) (closed leaving (counting members m)) (rw (fun_ext law)) r n h
+  -- whichever frames the closing takes out of the set that is not looked at
+  pub closing_seen : (taken leaving : ℕ → Bool) → ((f : ℕ) → members (closed taken m) f ≡ (members m f && not (leaving f))) → (r, n) ≡ close_frame taken m → (r, counting members n) ≡ close_frame leaving (counting members m)
+  closing_seen taken leaving law h = either_way (counting members) (nat_lt 1 (length m.opened)) _ _ m (closed taken m) (closed leaving (counting members m)) (rw (fun_ext law)) r n h
