@@ -12,6 +12,8 @@ use crate::word::PAYLOADS;
 use model::error::{Cause, Fault};
 
 // The call at the front of the words and how many of them it takes. None: no call that a log can hold is written there.
+// Inlined: called apart, it writes the answer None anew at each word that it tests.
+#[inline(always)]
 pub fn read_call<'a>(words: &'a [u32]) -> Option<(Call<'a>, usize)>
     ensures is { front_as result ≡ front words.now }
     ensures accepts { Accepts words.now (front_as result) }
@@ -43,7 +45,9 @@ impl<'a> Log<'a> {
     {
         let refused = Fault::new(Cause::Unreadable(at as u32));
         if at < self.words.len() {
-            let (call, taken) = read_call(&self.words[at..]).ok_or(refused)?;
+            let Some((call, taken)) = read_call(&self.words[at..]) else {
+                return Err(refused);
+            };
             return Ok((Some(call), at + taken));
         }
         if self.ragged {
