@@ -1,5 +1,6 @@
 // Reads a log: its whole words, and whether bytes are left over behind them.
 ghost use Rattle.std.specs.Prelude.{◌≡◌, ◌%◌, ◌≤◌, not, length, IfOk, ◌==◌};
+ghost use Rattle.listing.specs.declared.input.TheConstants.{MAX_BYTES};
 ghost use Rattle.wordlog.specs.Bytes.{words_in};
 
 use std::alloc::{AllocError, Global};
@@ -9,7 +10,7 @@ use wordlog::bytes::words_of;
 use wordlog::reader::Log;
 
 // No more bytes are read; a word has four.
-const MAX_BYTES: u64 = 65_536;
+const MAX_BYTES: usize = 65_536;
 
 // A log that owns its words.
 #[derive(Drop)]
@@ -48,8 +49,18 @@ fn input_of(bytes: &[u8], heap: Global) -> Result<Input, AllocError>
     })
 }
 
+// The bytes of a log, as many as are read. There is room for one more, so that the read that finds the end needs none.
+fn read_bytes(input: &mut impl Read, heap: Global) -> io::Result<Vec<u8>>
+    ensures { IfOk result (λ bytes. length bytes.items ≤ MAX_BYTES) }
+{
+    let mut bytes = Vec::with_capacity(heap, MAX_BYTES + 1)?;
+    input.take(MAX_BYTES as u64).read_to_end(&mut bytes)?;
+    // `take` bounds each read, and std says nothing of their sum.
+    bytes.truncate(MAX_BYTES);
+    Ok(bytes)
+}
+
 pub fn read_log(input: &mut impl Read, heap: Global) -> io::Result<Input> {
-    let mut bytes = Vec::new(heap);
-    input.take(MAX_BYTES).read_to_end(&mut bytes)?;
+    let bytes = read_bytes(input, heap)?;
     Ok(input_of(&bytes, heap)?)
 }
