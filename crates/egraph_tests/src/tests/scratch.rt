@@ -123,8 +123,10 @@ fn asks_for<T: Debug + Drop>(rt: &impl Abort, answer: Result<T, Fault>, pair: Op
     assert_eq!(rt;
         fault,
         Fault {
+            cause: fault.cause,
             pair,
-            ..Fault::new(fault.cause)
+            level: 0,
+            argument: None,
         }
     );
 }
