@@ -1,5 +1,5 @@
 #!/usr/bin/env bash
-# Puts the unfinished work in the place of the landed files: tools/take_up.sh, in a checkout with nothing uncommitted. docs/PORT.md says what it changes.
+# Puts the unfinished work in the place of the landed files: tools/take_up.sh, in a checkout of the commit in the first line of docs/DESIGN-PASS.md with nothing uncommitted; later code it does not fit. docs/PORT.md says what it changes.
 set -euo pipefail
 cd "$(dirname "$0")/.."
 [ -z "$(git status --porcelain)" ] || { echo "commit first" >&2; exit 1; }
