@@ -43,6 +43,7 @@ fn kind_at(start: u32, expl: EqualityExpl<'_>) -> Kind
 
 impl Records<'_> {
     // Files the given, and answers its number.
+    #[inline(always)]
     pub(crate) fn file_given(&mut self, expl: EqualityExpl<'_>, frame: u32) -> u32
         requires { GivenFits self.old expl }
         ensures number { result ≡ length (listed self.old.givens) }
