@@ -29,7 +29,8 @@ impl<'a, R: FrameRule> EGraph<'a, R> {
         Ok(place)
     }
 
-    // A new given in the active frame, under the enode `from`, which is its first end. Inlined, with its filing: where the kind is known, most of both is.
+    // A new given in the active frame, under the enode `from`, which is its first end.
+    // Inlined, with its filing, so that a caller's compiler drops what a known kind does not need.
     #[inline(always)]
     pub fn new_given_equality(&mut self, from: u32, expl: EqualityExpl<'_>) -> Result<u32, Fault>
         ensures outcome { (told result, case_on_file self.new) ≡ new_given from (from_of expl.entry) (to_of expl.entry) (kind_of expl.entry) (case_on_file self.old) }

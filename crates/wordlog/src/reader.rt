@@ -45,6 +45,7 @@ impl<'a> Log<'a> {
     {
         let refused = Fault::new(Cause::Unreadable(at as u32));
         if at < self.words.len() {
+            // By `let .. else`: through `ok_or` the call is copied once more.
             let Some((call, taken)) = read_call(&self.words[at..]) else {
                 return Err(refused);
             };
