@@ -45,7 +45,7 @@ impl<'a> Log<'a> {
     {
         let refused = Fault::new(Cause::Unreadable(at as u32));
         if at < self.words.len() {
-            // By `let .. else`: through `ok_or` the call is copied once more.
+            // By `let .. else`: by `ok_or` and `?` each call takes more instructions.
             let Some((call, taken)) = read_call(&self.words[at..]) else {
                 return Err(refused);
             };
